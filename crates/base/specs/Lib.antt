@@ -1,0 +1,3 @@
+-- What every layer shares.
+pub mod Refusal
+pub mod Size
