@@ -1,3 +1,4 @@
 -- What every layer shares.
 pub mod Refusal
 pub mod Size
+pub mod Lists
