@@ -1,0 +1,3 @@
+-- The planner: rows of totals and pivots, and what planning answers.
+pub mod Row
+pub mod Plan

@@ -1,0 +1,76 @@
+// The choice of a predecessor: candidates are weighed one by one, and the cheapest is held.
+
+ghost use mathlib.Core.Path.{_≡_};
+ghost use mathlib.Core.Bool.{true};
+ghost use Prim.Native.Nat.{ℕ, _+_, _*_, _^_, _≤_, _<_};
+ghost use lib.ListN.{length, getD};
+ghost use Rattle.tree.specs.Total.{entry};
+ghost use Rattle.walks.specs.Rows.{turn};
+ghost use Rattle.planner.specs.Row.{unreached, through, leastFrom};
+
+// The stop that is held, and the total that it leads to.
+pub struct Choice {
+    pub total: u64,
+    pub stop: usize,
+}
+
+// A total above that of every order: nothing is held yet.
+pub const UNREACHED: u64 = 9_223_372_036_854_775_808;
+
+// The smaller of two totals with its stop; of equals the one that was held.
+pub fn keep(held: Choice, total: u64, stop: usize) -> Choice
+    ensures { λ r. ⌜ (r .total, r .stop) ≡ turn true total stop (held .total, held .stop) ⌝ }
+{
+    if total < held.total {
+        Choice { total, stop }
+    } else {
+        held
+    }
+}
+
+// The time as a total.
+fn wide(time: u32) -> u64
+    ensures { λ r. ⌜ (r ≡ time) × (r < 2 ^ 32) ⌝ }
+{
+    time as u64
+}
+
+// What the move from one stop to another takes: the only reading of the table.
+pub fn time_of(table: &[u32], n: usize, from: usize, to: usize) -> u64
+    requires { ⌜ (from < n) × (to < n) × (n ≤ 1024) × (length (now table) ≡ n * n) ⌝ }
+    ensures { λ r. ⌜ (r ≡ entry n (now (table .entry)) from to) × (r < 2 ^ 32) ⌝ }
+{
+    wide(table[from * n + to])
+}
+
+// Weighs one candidate predecessor: `stop`, which can be reached at `total`, and the time from it. No other function considers one.
+pub fn weigh(held: Choice, total: u64, time: u64, stop: usize) -> Choice
+    requires { ⌜ (total ≤ unreached) × (time < 2 ^ 32) ⌝ }
+    ensures { λ r. ⌜ (r .total, r .stop) ≡ turn true (total + time) stop (held .total, held .stop) ⌝ }
+{
+    keep(held, total + time, stop)
+}
+
+// The cheapest way to the stop `to` from the r stops that start at `first`, by the row of totals at `old`.
+pub fn cheapest(
+    table: &[u32],
+    n: usize,
+    totals: &[u64],
+    old: usize,
+    first: usize,
+    r: usize,
+    to: usize,
+) -> Choice
+    requires { ⌜ (first + r ≤ n) × (to < n) × (n ≤ 1024) × (old + n ≤ length (now totals)) × (length (now table) ≡ n * n) ⌝ }
+    requires { ⌜ ((j : ℕ) → first ≤ j → j < first + r → getD (now totals) (old + j) 0 ≤ unreached) ⌝ }
+    ensures { λ c. ⌜ (c .total, c .stop) ≡ leastFrom (through n (now (table .entry)) (now (totals .entry)) old to) first r ⌝ }
+{
+    let mut held = Choice {
+        total: UNREACHED,
+        stop: 0,
+    };
+    for j in first..first + r {
+        held = weigh(held, totals[old + j], time_of(table, n, j, to), j);
+    }
+    held
+}

@@ -1,0 +1,67 @@
+// The planner: the wanted order of 2^k stops, from a table of travel times (Algorithm 2 of document 000).
+//
+// `plan` is the one public function and has no `requires`. Its contract cites `specs/Plan.antt` and, through it, the order that is wanted by
+// plain enumeration. The private modules hold the method: `choice` weighs candidates, `row` makes the rows of best totals and pivots, `halve`
+// halves the places by recursion.
+mod choice;
+mod halve;
+mod row;
+
+ghost use mathlib.Core.Path.{_≡_};
+ghost use Rattle.planner.specs.Plan.{judgePlan, Plans};
+
+// What planning answers: the total of the order that was written, or the refusal's number.
+pub enum Planned {
+    Done(u64),
+    Refused(u16),
+}
+
+// 0, or the number of the refusal for these lengths: k above 10 (5), then a table not n² long or a lent buffer too short (8).
+fn judge(k: u16, table: usize, order: usize, totals: usize, pivots: usize) -> u16
+    ensures { λ r. ⌜ r ≡ judgePlan k table order totals pivots ⌝ }
+{
+    if 10 < k {
+        return base::WRONG_K;
+    }
+    let n = base::stop_count(k);
+    if table != n * n {
+        return base::WRONG_SIZE;
+    }
+    if order < n {
+        return base::WRONG_SIZE;
+    }
+    if totals < n + n {
+        return base::WRONG_SIZE;
+    }
+    if pivots < n + n {
+        return base::WRONG_SIZE;
+    }
+    0
+}
+
+// Writes the wanted order of n = 2^k stops into the first n places of `order` and answers its total. The table has row 'from' and column
+// 'to' and is exactly n² long. `totals` and `pivots` are work space of 2n numbers each, which are 0 afterwards. A refusal writes nothing.
+pub fn plan(
+    k: u16,
+    table: &[u32],
+    order: &mut [u16],
+    totals: &mut [u64],
+    pivots: &mut [u16],
+) -> Planned
+    ensures { λ r. ⌜ Plans k (now (table .entry)) (now (order .entry)) (now (totals .entry)) (now (pivots .entry)) (now (order .exit)) (now (totals .exit)) (now (pivots .exit)) r ⌝ }
+{
+    let refused = judge(k, table.len(), order.len(), totals.len(), pivots.len());
+    if refused != 0 {
+        return Planned::Refused(refused);
+    }
+    let n = base::stop_count(k);
+    let total = halve::run(
+        table,
+        n,
+        &mut order[..n],
+        &mut totals[..n + n],
+        &mut pivots[..n + n],
+        k as u32,
+    );
+    Planned::Done(total)
+}

@@ -1,0 +1,229 @@
+// The two rows of best totals and of pivots: the first row of a block of places, and each next row from the one before.
+
+use crate::choice::cheapest;
+use crate::choice::time_of;
+ghost use mathlib.Core.Path.{_≡_};
+ghost use mathlib.Core.Bool.{true, cond};
+ghost use mathlib.Core.List.{List};
+ghost use Prim.Native.Nat.{ℕ, _+_, _-_, _*_, _^_, _≤_, _<_};
+ghost use lib.ListN.{length, getD, set, replicate};
+ghost use Rattle.tree.specs.Block.{besideOf};
+ghost use Rattle.planner.specs.Row.{startTime, mayStart, blockGraph, rowOf, nextTotal, nextPivot, Row, Sizes, Stops, Aligned, Held, Apart, Closed, Place};
+
+// A stop's number as an index.
+pub fn index(stop: u16) -> usize
+    ensures { λ r. ⌜ r ≡ stop ⌝ }
+{
+    stop as usize
+}
+
+// 2^m.
+pub fn two_to(m: u32) -> usize
+    requires { ⌜ m ≤ 10 ⌝ }
+    ensures { λ r. ⌜ r ≡ 2 ^ m ⌝ }
+{
+    1usize << m
+}
+
+// Where the row of place p starts.
+fn row_of(n: usize, p: usize) -> usize
+    ensures { λ r. ⌜ r ≡ rowOf n p ⌝ }
+{
+    if p % 2 == 0 { 0 } else { n }
+}
+
+// The first of the aligned block of 2^t stops beside the one that stop i is in.
+fn beside(i: usize, t: u32) -> usize
+    requires { ⌜ (i < 1024) × (t < 10) ⌝ }
+    ensures { λ r. ⌜ r ≡ besideOf i t ⌝ }
+{
+    ((i >> t) ^ 1) << t
+}
+
+// The time of coming to stop i as the first of the places from `left` on.
+fn start_time(table: &[u32], n: usize, order: &[u16], left: usize, i: usize) -> u64
+    requires { ⌜ (i < n) × (left < n) × (n ≤ 1024) × (length (now order) ≡ n) × (length (now table) ≡ n * n) ⌝ }
+    requires { ⌜ Stops n (now order) ⌝ }
+    ensures { λ r. ⌜ r ≡ startTime n (now (table .entry)) (now (order .entry)) left i ⌝ }
+{
+    if left == 0 {
+        return 0;
+    }
+    time_of(table, n, index(order[left - 1]), i)
+}
+
+// Stop i in the first row of a block: the time of coming there, and itself as its pivot.
+fn begin(
+    table: &[u32],
+    n: usize,
+    order: &[u16],
+    totals: &mut [u64],
+    pivots: &mut [u16],
+    left: usize,
+    i: usize,
+)
+    requires { ⌜ Sizes n (length (now table)) (length (now order)) (length (now totals)) (length (now pivots)) ⌝ }
+    requires { ⌜ (i < n) × (left < n) ⌝ }
+    requires { ⌜ Stops n (now order) ⌝ }
+    ensures { λ _. ⌜ now (totals .exit) ≡ set (now (totals .entry)) i (startTime n (now (table .entry)) (now (order .entry)) left i) ⌝ }
+    ensures { λ _. ⌜ now (pivots .exit) ≡ set (now (pivots .entry)) i i ⌝ }
+{
+    totals[i] = start_time(table, n, order, left, i);
+    pivots[i] = i as u16;
+}
+
+// The first row of the places from `left` on, for the stops of a block.
+fn first_row(
+    table: &[u32],
+    n: usize,
+    order: &[u16],
+    totals: &mut [u64],
+    pivots: &mut [u16],
+    left: usize,
+    base: usize,
+    size: usize,
+)
+    requires { ⌜ Sizes n (length (now table)) (length (now order)) (length (now totals)) (length (now pivots)) ⌝ }
+    requires { ⌜ (base + size ≤ n) × (left < n) ⌝ }
+    requires { ⌜ Stops n (now order) ⌝ }
+    ensures { λ _. ⌜ ((i : ℕ) → base ≤ i → i < base + size → getD (now (totals .exit)) i 0 ≡ startTime n (now (table .entry)) (now (order .entry)) left i) ⌝ }
+    ensures { λ _. ⌜ ((i : ℕ) → base ≤ i → i < base + size → getD (now (pivots .exit)) i 0 ≡ i) ⌝ }
+{
+    for i in base..base + size {
+        begin(table, n, order, totals, pivots, left, i);
+    }
+}
+
+// The pivot of stop i: itself up to the middle place, and past it its predecessor's, which stands at `at`.
+fn pivot_of(pivots: &[u16], early: bool, at: usize, i: usize) -> u16
+    requires { ⌜ (at < length (now pivots)) × (i < 1024) ⌝ }
+    ensures { λ r. ⌜ r ≡ cond early i (getD (now (pivots .entry)) at 0) ⌝ }
+{
+    if early { i as u16 } else { pivots[at] }
+}
+
+// Stop i in the row at `new`, from the row at `old`: the cheapest of its 2^t candidates.
+fn settle(
+    table: &[u32],
+    n: usize,
+    totals: &mut [u64],
+    pivots: &mut [u16],
+    old: usize,
+    new: usize,
+    t: u32,
+    early: bool,
+    i: usize,
+)
+    requires { ⌜ Sizes n (length (now table)) n (length (now totals)) (length (now pivots)) ⌝ }
+    requires { ⌜ (old ≤ n) × (new ≤ n) × (i < n) × (t < 10) × (besideOf i t + 2 ^ t ≤ n) ⌝ }
+    requires { ⌜ Held old (besideOf i t) (2 ^ t) (now totals) ⌝ }
+    ensures { λ _. ⌜ now (totals .exit) ≡ set (now (totals .entry)) (new + i) (nextTotal n (now (table .entry)) (now (totals .entry)) old t i) ⌝ }
+    ensures { λ _. ⌜ now (pivots .exit) ≡ set (now (pivots .entry)) (new + i) (nextPivot n (now (table .entry)) (now (totals .entry)) (now (pivots .entry)) old t early i) ⌝ }
+{
+    let held = cheapest(table, n, totals, old, beside(i, t), two_to(t), i);
+    let from = held.stop;
+    let pivot = pivot_of(pivots, early, old + from, i);
+    totals[new + i] = held.total;
+    pivots[new + i] = pivot;
+}
+
+// The row at `new` from the row at `old`, for the stops of a block that holds the candidates of each.
+fn next_row(
+    table: &[u32],
+    n: usize,
+    totals: &mut [u64],
+    pivots: &mut [u16],
+    old: usize,
+    new: usize,
+    t: u32,
+    early: bool,
+    base: usize,
+    size: usize,
+)
+    requires { ⌜ Sizes n (length (now table)) n (length (now totals)) (length (now pivots)) ⌝ }
+    requires { ⌜ Apart n old new × (t < 10) × (base + size ≤ n) ⌝ }
+    requires { ⌜ Closed t base size ⌝ }
+    requires { ⌜ Held old base size (now totals) ⌝ }
+    ensures { λ _. ⌜ ((i : ℕ) → base ≤ i → i < base + size → getD (now (totals .exit)) (new + i) 0 ≡ nextTotal n (now (table .entry)) (now (totals .entry)) old t i) ⌝ }
+    ensures { λ _. ⌜ ((i : ℕ) → base ≤ i → i < base + size → getD (now (pivots .exit)) (new + i) 0 ≡ nextPivot n (now (table .entry)) (now (totals .entry)) (now (pivots .entry)) old t early i) ⌝ }
+{
+    for i in base..base + size {
+        settle(table, n, totals, pivots, old, new, t, early, i);
+    }
+}
+
+// The row of place p from the row of the place before it. Up to the middle place a stop is its own pivot.
+fn next_place(
+    table: &[u32],
+    n: usize,
+    totals: &mut [u64],
+    pivots: &mut [u16],
+    left: usize,
+    p: usize,
+    mid: usize,
+    base: usize,
+    size: usize,
+)
+    requires { ⌜ Sizes n (length (now table)) n (length (now totals)) (length (now pivots)) ⌝ }
+    requires { ⌜ Place n left p base size × (left ≤ mid) ⌝ }
+    requires { ⌜ Held (n - rowOf n p) base size (now totals) ⌝ }
+    ensures { λ _. ⌜ ((o : List ℕ) → Row (blockGraph n (now (table .entry)) o left) (mid - left) (p - (left + 1)) (n - rowOf n p) base size (now (totals .entry)) (now (pivots .entry)) → Row (blockGraph n (now (table .entry)) o left) (mid - left) (p - left) (rowOf n p) base size (now (totals .exit)) (now (pivots .exit))) ⌝ }
+{
+    let new = row_of(n, p);
+    let t = usize::trailing_zeros(p);
+    next_row(
+        table,
+        n,
+        totals,
+        pivots,
+        n - new,
+        new,
+        t,
+        p <= mid,
+        base,
+        size,
+    );
+}
+
+// All rows of a block of 2^m places from `left` on, for an aligned block of 2^m stops; the last one is left in the odd row.
+pub fn sweep(
+    table: &[u32],
+    n: usize,
+    order: &[u16],
+    totals: &mut [u64],
+    pivots: &mut [u16],
+    left: usize,
+    base: usize,
+    m: u32,
+)
+    requires { ⌜ Sizes n (length (now table)) (length (now order)) (length (now totals)) (length (now pivots)) ⌝ }
+    requires { ⌜ (0 < m) × Aligned n left m × Aligned n base m ⌝ }
+    requires { ⌜ Stops n (now order) ⌝ }
+    requires { ⌜ ((i : ℕ) → base ≤ i → i < base + 2 ^ m → mayStart (now order) left i ≡ true) ⌝ }
+    ensures { λ _. ⌜ Row (blockGraph n (now (table .entry)) (now (order .entry)) left) (2 ^ (m - 1) - 1) (2 ^ m - 1) n base (2 ^ m) (now (totals .exit)) (now (pivots .exit)) ⌝ }
+{
+    let size = two_to(m);
+    let mid = left + two_to(m - 1) - 1;
+    first_row(table, n, order, totals, pivots, left, base, size);
+    for p in left + 1..left + size {
+        next_place(table, n, totals, pivots, left, p, mid, base, size);
+    }
+}
+
+// Sets every total to 0.
+pub fn zero_totals(totals: &mut [u64])
+    ensures { λ _. ⌜ now (totals .exit) ≡ replicate (length (now (totals .entry))) 0 ⌝ }
+{
+    for i in 0..totals.len() {
+        totals[i] = 0;
+    }
+}
+
+// Writes stop 0 everywhere.
+pub fn zero_stops(stops: &mut [u16])
+    ensures { λ _. ⌜ now (stops .exit) ≡ replicate (length (now (stops .entry))) 0 ⌝ }
+{
+    for i in 0..stops.len() {
+        stops[i] = 0;
+    }
+}
