@@ -10,3 +10,4 @@ pub mod Sides
 pub mod Wanted
 pub mod Graph
 pub mod Diagonal
+pub mod Block

@@ -45,7 +45,7 @@ stopIn-placeOf k F i b =
 -- ---- Theorem 7, forward
 
 -- the two forms of what Theorem 7 asks of neighbours
-near-beside : (p a b : ℕ) → ((reach p ≤ bitXor a b) × (bitXor a b < 2 * reach p)) ↔ Beside (trail p) a b
+pub near-beside : (p a b : ℕ) → ((reach p ≤ bitXor a b) × (bitXor a b < 2 * reach p)) ↔ Beside (trail p) a b
 unfolding reach
 near-beside p a b = (λ h. beside-xor (trail p) a b .1 (h .0, rw wide (h .1)), λ h. let x = beside-xor (trail p) a b .0 h in (x .0, rw (← wide) (x .1)))
   where

@@ -2,6 +2,7 @@
 pub mod Fork
 pub mod Order
 pub mod Neighbour
+pub mod Block
 pub mod Total
 pub mod Graph
 pub mod Wanted

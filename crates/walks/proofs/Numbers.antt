@@ -1,6 +1,6 @@
 -- A program keeps a cost as a number, and a number `inf` above all costs for 'no walk'. Its loop over the stops before then
 -- needs no test for 'no walk'.
-use mathlib.Core.Path.{_≡_, refl, ap, subst, subst₂, fun-ext}
+use mathlib.Core.Path.{_≡_, refl, sym, _∙_, ap, subst, subst₂, fun-ext}
 use mathlib.Core.Bool.{Bool, true, false, cond}
 use mathlib.Core.List.{List, _∷_}
 use Prim.Native.Nat.{ℕ, _+_, _≤_, _<_, zero, suc, _-_, _*_}
@@ -18,7 +18,7 @@ use Rattle.walks.specs.Rows.{told, costs, line, last, turn, loop, Codes}
 use Rattle.walks.specs.Walk.{Graph}
 
 -- no number that stands for a cell is above inf
-codes-le : (inf v q : ℕ) (y : Found ℕ) → Codes inf v q y → v ≤ inf
+pub codes-le : (inf v q : ℕ) (y : Found ℕ) → Codes inf v q y → v ≤ inf
 codes-le inf v q none h = omega arith
 codes-le inf v q (at c r) h = omega arith
 
@@ -91,20 +91,48 @@ first-row inf G m i h = go (G .may i)
     go true = (refl, refl, h)
     go false = refl
 
--- THE INNER LOOP OF THE PROGRAM: v and q stand for the row of place p; the loop over the stops before i gives what stands for
--- stop i in the row of place p + 1
+-- the loop may hold the stop itself, and look up what is told of it afterwards
+loop-from : (inf : ℕ) (a : ℕ → Bool) (x q : ℕ → ℕ) (k : ℕ) → ((loop inf a x q k) .0 ≡ (loop inf a x (λ j. j) k) .0)
+    × ((loop inf a x q k) .0 < inf → (loop inf a x q k) .1 ≡ q ((loop inf a x (λ j. j) k) .1))
+unfolding loop turn
+loop-from inf a x q zero = (refl, λ h. absurd (omega arith))
+loop-from inf a x q (suc k) = go (a k) (loop inf a x q k) (loop inf a x (λ j. j) k) (loop-from inf a x q k)
+  where
+    two : (b c : Bool) → b ≡ c → (s r : ℕ × ℕ) → (s .0 ≡ r .0) × (s .0 < inf → s .1 ≡ q (r .1))
+        → ((cond b (x k, q k) s) .0 ≡ (cond c (x k, k) r) .0) × ((cond b (x k, q k) s) .0 < inf → (cond b (x k, q k) s) .1 ≡ q ((cond c (x k, k) r) .1))
+    two true true e s r h = (refl, λ y. refl)
+    two false false e s r h = h
+    two true false e s r h = let z : _≡_ {A = ℕ} 0 1 = cc in absurd (omega arith)
+    two false true e s r h = let z : _≡_ {A = ℕ} 0 1 = cc in absurd (omega arith)
+
+    go : (b : Bool) (s r : ℕ × ℕ) → (s .0 ≡ r .0) × (s .0 < inf → s .1 ≡ q (r .1))
+        → ((turn b (x k) (q k) s) .0 ≡ (turn b (x k) k r) .0) × ((turn b (x k) (q k) s) .0 < inf → (turn b (x k) (q k) s) .1 ≡ q ((turn b (x k) k r) .1))
+    go false s r h = h
+    go true s r h = two (ltb (x k) (s .0)) (ltb (x k) (r .0)) (ap (ltb (x k)) (h .0)) s r h
+
+-- what stands for a cell with what is told stands for it with what is looked up
+codes-from : (inf : ℕ) (a : ℕ → Bool) (x q : ℕ → ℕ) (k : ℕ) (y : Found ℕ) → Codes inf ((loop inf a x q k) .0) ((loop inf a x q k) .1) y
+    → Codes inf ((loop inf a x (λ j. j) k) .0) (q ((loop inf a x (λ j. j) k) .1)) y
+codes-from inf a x q k none h = sym (loop-from inf a x q k .0) ∙ h
+codes-from inf a x q k (at c r) h =
+    let f = loop-from inf a x q k in
+    (sym (f .0) ∙ h .0, sym (f .1 (omega arith)) ∙ h .1, h .2)
+
+-- THE INNER LOOP OF A PROGRAM: v and q stand for the row of place p at every stop that may be left; the loop over those stops holds the
+-- cheapest one, and its cost and what is told of it stand for stop i in the row of place p + 1
 pub next-codes : (inf : ℕ) (G : Graph) (m p i : ℕ) (v q : ℕ → ℕ)
     → ((j : ℕ) → j < G .bound → G .ok p j i ≡ true → Codes inf (v j) (q j) (line G m p j))
     → ((j : ℕ) → j < G .bound → G .ok p j i ≡ true → v j < inf → v j + G .weight p j i < inf)
-    → Codes inf ((loop inf (λ j. G .ok p j i) (λ j. v j + G .weight p j i) q (G .bound)) .0)
-    (cond (leb (suc p) m) i ((loop inf (λ j. G .ok p j i) (λ j. v j + G .weight p j i) q (G .bound)) .1))
+    → Codes inf ((loop inf (λ j. G .ok p j i) (λ j. v j + G .weight p j i) (λ j. j) (G .bound)) .0)
+    (cond (leb (suc p) m) i (q ((loop inf (λ j. G .ok p j i) (λ j. v j + G .weight p j i) (λ j. j) (G .bound)) .1)))
     (line G m (suc p) i)
 unfolding line
 next-codes inf G m p i v q h b =
-    let s = loop inf (λ j. G .ok p j i) (λ j. v j + G .weight p j i) q (G .bound) in
-    codes-told inf (s .0) (s .1) (λ r. cond (leb (suc p) m) i r)
-    (scan (λ j. step (G .ok p j i) (G .weight p j i) (λ r. r) (line G m p j)) (G .bound))
-    (loop-codes inf (line G m p) (λ j. G .ok p j i) v q (λ j. G .weight p j i) (G .bound) h b)
+    let x : ℕ → ℕ = λ j. v j + G .weight p j i in
+    let a : ℕ → Bool = λ j. G .ok p j i in
+    let y = scan (λ j. step (G .ok p j i) (G .weight p j i) (λ r. r) (line G m p j)) (G .bound) in
+    codes-told inf ((loop inf a x (λ j. j) (G .bound)) .0) (q ((loop inf a x (λ j. j) (G .bound)) .1)) (λ r. cond (leb (suc p) m) i r) y
+    (codes-from inf a x q (G .bound) y (loop-codes inf (line G m p) a v q (λ j. G .weight p j i) (G .bound) h b))
 
 -- no sum reaches inf, if no start costs more than a, no move more than b, and inf is above all that these can add up to
 pub row-fits : (inf : ℕ) (G : Graph) (m p a b : ℕ) → ((i : ℕ) → G .start i ≤ a) → ((n j i : ℕ) → G .weight n j i ≤ b) → a + suc p * b < inf
