@@ -7,7 +7,7 @@ use lib.Dec.{leb, ltb, eqb}
 use lib.ListN.{length}
 use lib.IntN.{ℤ, pos, negsuc, natAbs}
 use lib.Signed.{ltZ, leZ}
-use borrow.Author.Tests.{ltb-true, ltb-false, le-leb, lt-leb, eq-eqb}
+use borrow.Author.Tests.{ltb-true, ltb-false, le-leb, lt-leb, eq-eqb, leb-true, eqb-true}
 use Rattle.stop.specs.declared.Stop.{Stop}
 use Rattle.stop.specs.declared.MadeStop.{MadeStop}
 use Rattle.stop.specs.Stop.{goodCoordinate, goodPoint, inRange, judgeStop, checkedStop, coordinate, zeroStop, coordinateLimit, slowest, fastest, largestBlend}
@@ -60,3 +60,61 @@ unfolding checkedStop judgeStop
 made-bad s r e f =
     let b : inRange s ≡ false = judged-bad s (λ z. f (e ∙ z)) in
     rw (e, b)
+
+-- ---- what is known of a stop in range
+
+pub and-left : (a b : Bool) → (a && b) ≡ true → a ≡ true
+and-left true b e = refl
+and-left false b e = e
+
+pub and-right : (a b : Bool) → (a && b) ≡ true → b ≡ true
+and-right true b e = e
+and-right false b e = absurd (false≢true e)
+
+-- a stop in range: three coordinates, and each field between its limits
+pub record Good (s : Stop) : Type 0 where
+  pub three : length (s .at) ≡ 3
+  pub x : natAbs (coordinate s 0) ≤ coordinateLimit
+  pub y : natAbs (coordinate s 1) ≤ coordinateLimit
+  pub z : natAbs (coordinate s 2) ≤ coordinateLimit
+  pub slow : slowest ≤ s .speed
+  pub fast : s .speed ≤ fastest
+  pub blend : s .blend ≤ largestBlend
+
+pub good : (s : Stop) → inRange s ≡ true → Good s
+unfolding inRange goodPoint goodCoordinate
+good s g =
+    let point = goodPoint s in
+    let slow = leb slowest (s .speed) in
+    let fast = leb (s .speed) fastest in
+    let blend = leb (s .blend) largestBlend in
+    let long = eqb (length (s .at)) 3 in
+    let x = goodCoordinate (coordinate s 0) in
+    let y = goodCoordinate (coordinate s 1) in
+    let z = goodCoordinate (coordinate s 2) in
+    let g3 : (point && slow && fast) ≡ true = and-left (point && slow && fast) blend g in
+    let g2 : (point && slow) ≡ true = and-left (point && slow) fast g3 in
+    let p3 : (long && x && y && z) ≡ true = and-left point slow g2 in
+    let p2 : (long && x && y) ≡ true = and-left (long && x && y) z p3 in
+    let p1 : (long && x) ≡ true = and-left (long && x) y p2 in
+    record {
+      three = eqb-true _ _ (and-left long x p1);
+      x = leb-true _ _ (and-right long x p1);
+      y = leb-true _ _ (and-right (long && x) y p2);
+      z = leb-true _ _ (and-right (long && x && y) z p3);
+      slow = leb-true _ _ (and-right point slow g2);
+      fast = leb-true _ _ (and-right (point && slow) fast g3);
+      blend = leb-true _ _ (and-right (point && slow && fast) blend g);
+    }
+
+-- a stop that was made is in range
+abbrev checked : Bool → Stop → MadeStop
+checked b s = cond b (record { refused = 0; stop = s }) (record { refused = 6; stop = zeroStop })
+
+pub made-in-range : (s : Stop) → checkedStop s .refused ≡ 0 → inRange (checkedStop s .stop) ≡ true
+unfolding checkedStop
+made-in-range s e = by-test (inRange s) s refl e
+  where
+    by-test : (b : Bool) (s : Stop) → inRange s ≡ b → checked b s .refused ≡ 0 → inRange (checked b s .stop) ≡ true
+    by-test true s t e = t
+    by-test false s t e = absurd (omega arith)

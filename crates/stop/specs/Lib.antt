@@ -1,2 +1,4 @@
--- What a stop is, when it is good, and the travel time between two.
+-- What a stop is and when it is good, stops in lent buffers, and the travel time between two.
 pub mod Stop
+pub mod Tabulate
+pub mod Lent

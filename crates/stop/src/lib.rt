@@ -1,9 +1,13 @@
-// A stop: its fields and their limits.
+// A stop: its fields and their limits, and stops in lent buffers of numbers.
 //
 // No public function has a `requires`. A stop out of range is refused by 6.
 
 use base::OUT_OF_RANGE;
+use base::WRONG_SIZE;
 ghost use mathlib.Core.Path.{_≡_};
+ghost use lib.ListN.{getD};
+ghost use lib.IntN.{pos};
+ghost use Rattle.stop.specs.Lent.{stopAt, pointAt, lentStops, judgeAll, judgeLent};
 ghost use Rattle.stop.specs.Stop.{goodCoordinate, judgeStop, madeStop};
 
 // Where a move can lead. A value need not be in range: `judge` tells.
@@ -89,4 +93,73 @@ fn good_coordinate(x: i32) -> bool
         return false;
     }
     x <= Stop::COORDINATE_LIMIT
+}
+
+// Number i of a buffer, and 0 beyond its end.
+fn signed_at(numbers: &[i32], i: usize) -> i32
+    ensures { λ r. ⌜ r ≡ getD (now (numbers .entry)) i (pos 0) ⌝ }
+{
+    if i < numbers.len() { numbers[i] } else { 0 }
+}
+
+fn unsigned_at(numbers: &[u16], i: usize) -> u16
+    ensures { λ r. ⌜ r ≡ getD (now (numbers .entry)) i 0 ⌝ }
+{
+    if i < numbers.len() { numbers[i] } else { 0 }
+}
+
+// The coordinates of stop i of a buffer.
+fn point_at(coords: &[i32], i: usize) -> [i32; 3]
+    ensures { λ r. ⌜ r ≡ pointAt (now (coords .entry)) i ⌝ }
+{
+    if coords.len() <= i {
+        return [0, 0, 0];
+    }
+    let x = 3 * i;
+    [
+        signed_at(coords, x),
+        signed_at(coords, x + 1),
+        signed_at(coords, x + 2),
+    ]
+}
+
+// Stop i of lent buffers: the coordinates of all stops in one, the speeds in another, the blends in a third. Numbers beyond a
+// buffer's end count as 0.
+pub fn stop_at(coords: &[i32], speeds: &[u16], blends: &[u16], i: usize) -> Stop
+    ensures { λ r. ⌜ r ≡ stopAt (now (coords .entry)) (now (speeds .entry)) (now (blends .entry)) i ⌝ }
+{
+    let at = point_at(coords, i);
+    Stop {
+        at,
+        speed: unsigned_at(speeds, i),
+        blend: unsigned_at(blends, i),
+    }
+}
+
+// 0, or 6 where one of the first `count` stops is out of range.
+fn judge_each(count: usize, coords: &[i32], speeds: &[u16], blends: &[u16]) -> u16
+    ensures { λ r. ⌜ r ≡ judgeAll (lentStops count (now (coords .entry)) (now (speeds .entry)) (now (blends .entry))) ⌝ }
+{
+    for i in 0..count {
+        if stop_at(coords, speeds, blends, i).judge() != 0 {
+            return OUT_OF_RANGE;
+        }
+    }
+    0
+}
+
+// 0, or 8 where a buffer is too short for `count` stops, or 6 where one of the first `count` stops is out of range.
+pub fn judge_stops(count: usize, coords: &[i32], speeds: &[u16], blends: &[u16]) -> u16
+    ensures { λ r. ⌜ r ≡ judgeLent count (now (coords .entry)) (now (speeds .entry)) (now (blends .entry)) ⌝ }
+{
+    if coords.len() / 3 < count {
+        return WRONG_SIZE;
+    }
+    if speeds.len() < count {
+        return WRONG_SIZE;
+    }
+    if blends.len() < count {
+        return WRONG_SIZE;
+    }
+    judge_each(count, coords, speeds, blends)
 }
