@@ -2,3 +2,5 @@
 pub mod Tabulate
 pub mod Limits
 pub mod Lent
+pub mod Signed
+pub mod Time

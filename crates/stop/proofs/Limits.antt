@@ -1,10 +1,10 @@
 -- Laws of a stop's limits.
 use mathlib.Core.Path.{_≡_, refl, sym, _∙_}
 use mathlib.Core.Bool.{Bool, true, false, false≢true, cond, _&&_}
-use Prim.Native.Nat.{ℕ, suc, _≤_, _<_}
+use Prim.Native.Nat.{ℕ, zero, suc, _≤_, _<_}
 use native.Mathlib.Omega.{arith}
-use lib.Dec.{leb, ltb, eqb}
-use lib.ListN.{length}
+use lib.Dec.{leb, ltb, eqb, lit≤}
+use lib.ListN.{length, List·getD-eq-default}
 use lib.IntN.{ℤ, pos, negsuc, natAbs}
 use lib.Signed.{ltZ, leZ}
 use borrow.Author.Tests.{ltb-true, ltb-false, le-leb, lt-leb, eq-eqb, leb-true, eqb-true}
@@ -106,6 +106,16 @@ good s g =
       fast = leb-true _ _ (and-right (point && slow) fast g3);
       blend = leb-true _ _ (and-right (point && slow && fast) blend g);
     }
+
+-- every coordinate of a stop in range is within the limit
+pub coordinate-bound : (s : Stop) → Good s → (i : ℕ) → natAbs (coordinate s i) ≤ coordinateLimit
+coordinate-bound s g zero = g .x
+coordinate-bound s g (suc zero) = g .y
+coordinate-bound s g (suc (suc zero)) = g .z
+coordinate-bound s g (suc (suc (suc i))) = rw (List·getD-eq-default (s .at) (pos 0) (beyond i (g .three))) (lit≤ tt)
+  where
+    beyond : {l : ℕ} (i : ℕ) → l ≡ 3 → l ≤ suc (suc (suc i))
+    beyond i e = omega arith
 
 -- a stop that was made is in range
 abbrev checked : Bool → Stop → MadeStop
