@@ -35,6 +35,7 @@ fn gap(a: i32, b: i32) -> u32
     absolute(difference(a, b))
 }
 
+// The larger of two numbers.
 fn larger(a: u32, b: u32) -> u32
     ensures { λ r. ⌜ r ≡ max a b ⌝ }
 {
