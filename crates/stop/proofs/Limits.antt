@@ -1,15 +1,16 @@
 -- Laws of a stop's limits.
 use mathlib.Core.Path.{_≡_, refl, sym, _∙_}
 use mathlib.Core.Bool.{Bool, true, false, false≢true, cond, _&&_}
-use Prim.Native.Nat.{ℕ, zero, suc, _≤_, _<_}
+use Prim.Native.Nat.{ℕ, zero, suc, _≤_}
 use native.Mathlib.Omega.{arith}
-use lib.Dec.{leb, ltb, eqb, lit≤}
+use lib.Dec.{leb, eqb, lit≤}
 use lib.ListN.{length, List·getD-eq-default}
 use lib.IntN.{ℤ, pos, negsuc, natAbs}
 use lib.Signed.{ltZ, leZ}
 use borrow.Author.Tests.{ltb-true, ltb-false, le-leb, lt-leb, eq-eqb, leb-true, eqb-true}
 use Rattle.stop.specs.declared.Stop.{Stop}
 use Rattle.stop.specs.declared.MadeStop.{MadeStop}
+use Rattle.stop.proofs.Verdict.{test-passed, test-failed}
 use Rattle.stop.specs.Stop.{goodCoordinate, goodPoint, inRange, judgeStop, checkedStop, coordinate, zeroStop, coordinateLimit, slowest, fastest, largestBlend}
 
 -- a coordinate below the least one is out of range
@@ -35,20 +36,12 @@ all-passed s l x y z low high blend =
 -- a stop whose judgement is 0 is in range
 pub judged-good : (s : Stop) → judgeStop s ≡ 0 → inRange s ≡ true
 unfolding judgeStop
-judged-good s e = by-test (inRange s) e
-  where
-    by-test : (b : Bool) → _≡_ {A = ℕ} (cond b 0 6) 0 → b ≡ true
-    by-test true e = refl
-    by-test false e = absurd (omega arith)
+judged-good s e = test-passed (inRange s) 0 5 e
 
 -- any other judgement is 6, and the stop is out of range
 pub judged-bad : (s : Stop) → (judgeStop s ≡ 0 → ⊥) → inRange s ≡ false
 unfolding judgeStop
-judged-bad s f = by-test (inRange s) f
-  where
-    by-test : (b : Bool) → (_≡_ {A = ℕ} (cond b 0 6) 0 → ⊥) → b ≡ false
-    by-test true f = absurd (f refl)
-    by-test false f = refl
+judged-bad s f = test-failed (inRange s) 6 f
 
 -- a stop that is judged and then handed on, or zeros
 pub made-good : (s : Stop) (r : ℕ) → r ≡ judgeStop s → r ≡ 0 → _≡_ {A = MadeStop} (record { refused = r; stop = s }) (checkedStop s)

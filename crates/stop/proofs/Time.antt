@@ -1,18 +1,17 @@
 -- Laws of travel times: they are at most `longestTime`, the time of a stop to itself is 0, and what is said of stops out of range.
-use mathlib.Core.Path.{_≡_, refl, sym, ap, _∙_}
-use mathlib.Core.Bool.{Bool, true, false, cond, _&&_, and-false}
-use Prim.Native.Nat.{ℕ, suc, _+_, _-_, _*_, _/_, _≤_, _<_, max}
+use mathlib.Core.Path.{_≡_, _∙_}
+use mathlib.Core.Bool.{Bool, true, false, cond}
+use Prim.Native.Nat.{ℕ, suc, _+_, _-_, _*_, _≤_, _<_}
 use native.Mathlib.Nat.{div-lt-iff-lt-mul, le-of-suc-le-suc, mul-le-mul-left, mul-one, suc-mul}
 use native.Mathlib.Omega.{arith}
 use lib.Dec.{eqb}
-use lib.IntN.{ℤ, natAbs, _-ℤ_}
 use borrow.Author.Tests.{eq-eqb, ne-eqb}
 use Rattle.stop.specs.declared.Stop.{Stop}
-use Rattle.stop.specs.declared.MoveTime.{MoveTime}
 use Rattle.stop.specs.declared.MoveTime.the-variants.{Takes, Refused}
-use Rattle.stop.specs.Stop.{inRange, coordinate, slowest}
-use Rattle.stop.specs.Time.{gap, distance, largestDistance, longestTime, roundUp, travel, time, timeBetween, timeOrZero, bothInRange, moveTime, moveNumber, moveValue, Timed}
-use Rattle.stop.proofs.Limits.{Good, good, coordinate-bound}
+use Rattle.stop.specs.Stop.{inRange, judgeStop, coordinate, slowest}
+use Rattle.stop.specs.Time.{gap, distance, largestDistance, longestTime, roundUp, travel, time, timeBetween, timeOrZero, bothInRange, judgeMove, moveTime, moveNumber, moveValue, Timed}
+use Rattle.stop.proofs.Verdict.{test-passed, test-failed}
+use Rattle.stop.proofs.Limits.{Good, good, coordinate-bound, judged-good, judged-bad, and-left, and-right}
 use Rattle.stop.proofs.Signed.{natAbs-sub}
 
 -- ---- bounds
@@ -64,20 +63,37 @@ pub timeOrZero-good : (i j : ℕ) (a b : Stop) → inRange a ≡ true → inRang
 unfolding timeOrZero
 timeOrZero-good i j a b ga gb = rw (ga, gb)
 
-pub bad-from : (a b : Stop) → inRange a ≡ false → bothInRange a b ≡ false
-bad-from a b e = rw e
+-- the judgement of a move tells of both stops
+pub judged-move : (a b : Stop) → judgeMove a b ≡ 0 → (inRange a ≡ true) × (inRange b ≡ true)
+unfolding judgeMove
+judged-move a b e =
+    let both : bothInRange a b ≡ true = test-passed (bothInRange a b) 0 5 e in
+    (and-left (inRange a) (inRange b) both, and-right (inRange a) (inRange b) both)
 
-pub bad-to : (a b : Stop) → inRange b ≡ false → bothInRange a b ≡ false
-bad-to a b e = rw (e, and-false)
+pub refused-move : (a b : Stop) (r : ℕ) → r ≡ judgeMove a b → (r ≡ 0 → ⊥) → bothInRange a b ≡ false
+unfolding judgeMove
+refused-move a b r e f = test-failed (bothInRange a b) 6 (λ z. f (e ∙ z))
+
+-- the two stops are judged one after the other
+pub move-from : (a b : Stop) (r : ℕ) → r ≡ judgeStop a → (r ≡ 0 → ⊥) → r ≡ judgeMove a b
+unfolding judgeMove judgeStop
+move-from a b r e f = let bad : inRange a ≡ false = judged-bad a (λ z. f (e ∙ z)) in rw bad (rw bad at e)
+
+pub move-to : (a b : Stop) (r : ℕ) → judgeStop a ≡ 0 → r ≡ judgeStop b → r ≡ judgeMove a b
+unfolding judgeMove judgeStop
+move-to a b r g e = rw (judged-good a g) e
 
 pub timeOrZero-bad : (i j : ℕ) (a b : Stop) → bothInRange a b ≡ false → 0 ≡ timeOrZero i j a b
 unfolding timeOrZero
-timeOrZero-bad i j a b e = rw e
+timeOrZero-bad i j a b bad = rw bad
 
-pub timed-bad : (a b : Stop) → bothInRange a b ≡ false → Timed a b (Refused 6)
-unfolding moveTime moveNumber moveValue
-timed-bad a b e = record { answer = rw e; number = rw e; value = rw e }
+-- the answer of a move that is refused, and of one that is timed
+pub timed-bad : (a b : Stop) (r : ℕ) → r ≡ judgeMove a b → (r ≡ 0 → ⊥) → Timed a b (Refused r)
+unfolding judgeMove moveTime moveNumber moveValue
+timed-bad a b r e f =
+    let bad : bothInRange a b ≡ false = refused-move a b r e f in
+    record { answer = rw (e, bad); number = e; value = rw bad }
 
 pub timed-good : (a b : Stop) (t : ℕ) → inRange a ≡ true → inRange b ≡ true → t ≡ time a b → Timed a b (Takes t)
-unfolding moveTime moveNumber moveValue
+unfolding judgeMove moveTime moveNumber moveValue
 timed-good a b t ga gb e = record { answer = rw (ga, gb, e); number = rw (ga, gb); value = rw (ga, gb, e) }

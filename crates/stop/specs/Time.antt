@@ -50,7 +50,11 @@ timeBetween i j a b = cond (eqb i j) 0 (time a b)
 abbrev pub bothInRange : Stop → Stop → Bool
 bothInRange a b = inRange a && inRange b
 
--- the same where both stops are in range, and 0 elsewhere
+-- the number of a move that is judged: 6 where one of its stops is out of range
+unfoldable pub judgeMove : Stop → Stop → ℕ
+judgeMove a b = cond (bothInRange a b) accepted outOfRange
+
+-- the time between two stops by their numbers where both are in range, and 0 elsewhere
 unfoldable pub timeOrZero : ℕ → ℕ → Stop → Stop → ℕ
 timeOrZero i j a b = cond (bothInRange a b) (timeBetween i j a b) 0
 
@@ -71,5 +75,5 @@ moveValue (Refused n) = 0
 -- what the call promises of its answer
 pub record Timed (a b : Stop) (r : MoveTime) : Type 0 where
   pub answer : r ≡ moveTime a b
-  pub number : moveNumber r ≡ cond (bothInRange a b) accepted outOfRange
+  pub number : moveNumber r ≡ judgeMove a b
   pub value : moveValue r ≡ cond (bothInRange a b) (time a b) 0

@@ -8,7 +8,7 @@ use base::OUT_OF_RANGE;
 use base::WRONG_SIZE;
 ghost use mathlib.Core.Path.{_≡_};
 ghost use lib.ListN.{getD};
-ghost use Rattle.stop.specs.Time.{Timed, timeOrZero};
+ghost use Rattle.stop.specs.Time.{judgeMove, Timed, timeOrZero};
 ghost use lib.IntN.{pos};
 ghost use Rattle.stop.specs.Lent.{stopAt, pointAt, lentStops, judgeAll, judgeLent};
 ghost use Rattle.stop.specs.Stop.{goodCoordinate, judgeStop, madeStop};
@@ -173,15 +173,24 @@ pub enum MoveTime {
     Refused(u16),
 }
 
+// 0, or 6 where one of the two stops of a move is out of range.
+fn judge_move(from: Stop, to: Stop) -> u16
+    ensures { λ r. ⌜ r ≡ judgeMove from to ⌝ }
+{
+    let first = from.judge();
+    if first != 0 {
+        return first;
+    }
+    to.judge()
+}
+
 // The time of a move between two stops in milliseconds; 6 where one is out of range.
 pub fn move_time(from: Stop, to: Stop) -> MoveTime
     ensures { λ r. ⌜ Timed from to r ⌝ }
 {
-    if from.judge() != 0 {
-        return MoveTime::Refused(OUT_OF_RANGE);
-    }
-    if to.judge() != 0 {
-        return MoveTime::Refused(OUT_OF_RANGE);
+    let refused = judge_move(from, to);
+    if refused != 0 {
+        return MoveTime::Refused(refused);
     }
     MoveTime::Takes(travel::time(from, to))
 }
@@ -190,10 +199,7 @@ pub fn move_time(from: Stop, to: Stop) -> MoveTime
 pub fn time_between(i: usize, j: usize, from: Stop, to: Stop) -> u32
     ensures { λ r. ⌜ r ≡ timeOrZero i j from to ⌝ }
 {
-    if from.judge() != 0 {
-        return 0;
-    }
-    if to.judge() != 0 {
+    if judge_move(from, to) != 0 {
         return 0;
     }
     if i == j {

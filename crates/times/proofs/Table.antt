@@ -1,24 +1,23 @@
 -- Laws of the table of travel times: its length and each entry, a bound on the entries, and that what is written from judged stops
 -- is the table.
 use mathlib.Core.Path.{_≡_, refl, sym, ap, _∙_}
-use mathlib.Core.Bool.{Bool, true, false, cond}
+use mathlib.Core.Bool.{true}
 use mathlib.Core.List.{List}
 use Prim.Native.Nat.{ℕ, zero, suc, _+_, _*_, _≤_, _<_}
-use native.Mathlib.Omega.{arith}
 use lib.Dec.{leb, eqb}
 use lib.ListN.{length, getD}
 use lib.IntN.{ℤ}
 use borrow.Author.Tests.{eqb-true}
 use Rattle.base.specs.Size.{maxK, stopCount}
 use Rattle.stop.specs.declared.Stop.{Stop}
-use Rattle.stop.specs.Stop.{inRange, zeroStop}
+use Rattle.stop.specs.Stop.{zeroStop}
 use Rattle.stop.specs.Tabulate.{tabulate}
-use Rattle.stop.specs.Lent.{stopAt, lentStops, allInRange, stopsFit, judgeAll, judgeLent}
-use Rattle.stop.specs.Time.{timeBetween, timeOrZero, longestTime}
+use Rattle.stop.specs.Lent.{stopAt, lentStops, allInRange}
+use Rattle.stop.specs.Time.{timeBetween, longestTime}
+use Rattle.stop.proofs.Verdict.{test-passed, rest-passed}
 use Rattle.stop.proofs.Tabulate.{length-tabulate, getD-tabulate, tabulate-cong}
-use Rattle.stop.proofs.Lent.{length-lent, getD-lent, lent-good, each-good}
+use Rattle.stop.proofs.Lent.{length-lent, getD-lent, lent-good, each-good, judged-lent}
 use Rattle.stop.proofs.Time.{timeOrZero-good, timeBetween-bound}
-use Rattle.times.specs.declared.TableMade.{TableMade}
 use Rattle.times.specs.declared.TableMade.the-variants.{Made, Refused}
 use Rattle.times.specs.Rows.{rows}
 use Rattle.times.specs.Lent.{lentTime}
@@ -72,15 +71,6 @@ unfolding tableNumber answerOf
 number-answer zero = refl
 number-answer (suc n) = refl
 
--- a ladder of tests that ends in 0 had its test passed, and goes on in the first branch
-cond-true : (b : Bool) (x n : ℕ) → cond b x (suc n) ≡ 0 → b ≡ true
-cond-true true x n e = refl
-cond-true false x n e = absurd (omega arith)
-
-cond-rest : (b : Bool) (x n : ℕ) → cond b x (suc n) ≡ 0 → x ≡ 0
-cond-rest true x n e = e
-cond-rest false x n e = absurd (omega arith)
-
 -- a refusal is the answer of its number
 refused-answer : (r : ℕ) → (r ≡ 0 → ⊥) → Refused r ≡ answerOf r
 unfolding answerOf
@@ -92,14 +82,14 @@ pub judged-size : (k : ℕ) (coords : List ℤ) (speeds blends : List ℕ) (size
 unfolding judgeTable
 judged-size k coords speeds blends size r e z =
     eqb-true size (stopCount k * stopCount k)
-    (cond-true (eqb size (stopCount k * stopCount k)) _ 7 (cond-rest (leb k maxK) _ 4 (sym e ∙ z)))
+    (test-passed (eqb size (stopCount k * stopCount k)) _ 7 (rest-passed (leb k maxK) _ 4 (sym e ∙ z)))
 
 pub judged-stops : (k : ℕ) (coords : List ℤ) (speeds blends : List ℕ) (size : ℕ) → judgeTable k coords speeds blends size ≡ 0 → allInRange (lentStops (stopCount k) coords speeds blends) ≡ true
-unfolding judgeTable judgeLent judgeAll
+unfolding judgeTable
 judged-stops k coords speeds blends size e =
-    cond-true (allInRange (lentStops (stopCount k) coords speeds blends)) 0 5
-    (cond-rest (stopsFit (stopCount k) coords speeds blends) _ 7
-    (cond-rest (eqb size (stopCount k * stopCount k)) _ 7 (cond-rest (leb k maxK) _ 4 e)))
+    judged-lent (stopCount k) coords speeds blends
+    (rest-passed (eqb size (stopCount k * stopCount k)) _ 7 (rest-passed (leb k maxK) _ 4 e))
+    .stops
 
 -- what the call promises, after a refusal and after success
 pub table-refused : (k : ℕ) (coords : List ℤ) (speeds blends before : List ℕ) (r : ℕ) → r ≡ judgeTable k coords speeds blends (length before) → (r ≡ 0 → ⊥) → MadeTable k coords speeds blends before before (Refused r)

@@ -1,11 +1,11 @@
 -- Laws of writing a list from a place on, element after element, and of writing rows one after another.
-use mathlib.Core.Path.{_≡_, refl, sym, ap, _∙_}
+use mathlib.Core.Path.{_≡_, sym, ap, _∙_}
 use mathlib.Core.List.{List, [], _∷_, _++_, append-assoc, append-nil}
-use Prim.Native.Nat.{ℕ, zero, suc, _+_, _*_, _≤_, _<_}
+use Prim.Native.Nat.{ℕ, suc, _+_, _*_, _≤_, _<_}
 use native.Mathlib.Nat.{add-zero, suc-mul, mul-le-mul-right}
 use native.Mathlib.Numerals.{add-one}
 use native.Mathlib.Omega.{arith}
-use lib.ListN.{length, getD, take, drop, set, length-append, length-drop, take-append-drop, drop-of-length-le}
+use lib.ListN.{length, getD, take, drop, set, length-append, take-append-drop, drop-of-length-le}
 use lib.Seq.{drop-cons, set-at, length-take-le, take-at, drop-append-add, drop-drop}
 use Rattle.stop.specs.Tabulate.{tabulate}
 use Rattle.stop.proofs.Tabulate.{length-tabulate, tabulate-suc}
@@ -23,11 +23,6 @@ module _ {ℓ} {A : Type ℓ} where
 
   pub written-none : (t : List A) (start : ℕ) (f : ℕ → A) → t ≡ written t start f 0
   written-none t start f = rw (add-zero start) (sym (take-append-drop start t))
-
-  pub length-written : (t : List A) (start : ℕ) (f : ℕ → A) (i : ℕ) → start + i ≤ length t → length (written t start f i) ≡ length t
-  length-written t start f i h =
-      rw (length-append (take start t) (tabulate i f ++ drop (start + i) t), length-append (tabulate i f) (drop (start + i) t))
-      (omega (arith, length-take-le start t (omega arith), length-tabulate i f, length-drop (start + i) t))
 
   -- the next element
   pub written-more : (t : List A) (start : ℕ) (f : ℕ → A) (i : ℕ) (d : A) → start + i < length t → set (written t start f i) (start + i) (f i) ≡ written t start f (i + 1)

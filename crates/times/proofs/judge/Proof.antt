@@ -1,13 +1,9 @@
 -- `times::judge` meets its contract: k, the table's size, then the stops.
-use mathlib.Core.Path.{_≡_, ap, _∙_}
-use mathlib.Core.Bool.{true, false}
-use Prim.Native.Nat.{ℕ, _*_, _≤_}
+use mathlib.Core.Path.{_≡_}
 use native.Mathlib.Omega.{arith}
-use denote.Ref.{now}
 use borrow.Author.Needs.{needs}
 use borrow.Author.Tests.{le-leb, lt-leb, eq-eqb, ne-eqb}
 use Rattle.base.specs.Size.{stopCount}
-use Rattle.stop.specs.Lent.{judgeLent}
 use Rattle.times.specs.Table.{judgeTable}
 use Rattle.times.proofs.Size.{stopCount-le, square-le}
 use Rattle.times.proofs.judge.Statement.{statement}

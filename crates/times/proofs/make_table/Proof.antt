@@ -1,8 +1,7 @@
 -- `times::make_table` meets its contract: judged first, then written, and after a refusal the table is as it was.
-use mathlib.Core.Path.{_≡_, refl, sym, ap, _∙_}
-use mathlib.Core.Bool.{true}
+use mathlib.Core.Path.{_≡_}
 use mathlib.Core.List.{List}
-use Prim.Native.Nat.{ℕ, _*_}
+use Prim.Native.Nat.{ℕ}
 use lib.ListN.{length}
 use denote.Ref.{now}
 use borrow.Author.Needs.{needs}
@@ -10,7 +9,7 @@ use Rattle.base.specs.Size.{stopCount}
 use Rattle.stop.specs.Tabulate.{tabulate}
 use Rattle.times.specs.Rows.{rows}
 use Rattle.times.specs.Lent.{lentTime}
-use Rattle.times.specs.Table.{judgeTable, MadeTable}
+use Rattle.times.specs.Table.{judgeTable}
 use Rattle.times.proofs.Table.{table-refused, table-made, judged-size}
 use Rattle.times.proofs.make_table.Statement.{statement}
 use Rattle.times.proofs.make_table.Tie as tie

@@ -1,12 +1,10 @@
 -- `stop::travel::absolute` meets its contract: what is cast is the absolute value, which loses no bit.
-use mathlib.Core.Path.{_≡_, refl, ap, _∙_}
-use Prim.Native.Nat.{_<_, _^_}
+use mathlib.Core.Path.{_≡_, ap, _∙_}
 use native.Mathlib.Omega.{arith}
 use lib.IntN.{ℤ, pos, natAbs, _-ℤ_}
 use mir.Syntax.{w32}
 use mir.Val.{toZ, ofZ}
 use mir.ValLaws.{toZ-ofZ}
-use borrow.Author.Needs.{needs}
 use Rattle.stop.proofs.Signed.{small-fits, read-back, negated, kept}
 use Rattle.stop.proofs.travel.absolute.Statement.{statement}
 use Rattle.stop.proofs.travel.absolute.Tie as tie

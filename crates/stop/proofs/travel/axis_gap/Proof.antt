@@ -1,12 +1,9 @@
 -- `stop::travel::axis_gap` meets its contract: the coordinates are read as they are, and are within the limit.
 use mathlib.Core.Path.{_≡_}
-use Prim.Native.Nat.{_≤_}
-use native.Mathlib.Omega.{arith}
-use lib.IntN.{natAbs}
 use mir.Syntax.{w32}
 use mir.Val.{toZ, ofZ}
 use borrow.Author.Needs.{needs}
-use Rattle.stop.specs.Stop.{coordinate, coordinateLimit}
+use Rattle.stop.specs.Stop.{coordinate}
 use Rattle.stop.specs.Time.{gap}
 use Rattle.stop.proofs.Limits.{good, coordinate-bound}
 use Rattle.stop.proofs.travel.axis_gap.Statement.{statement}

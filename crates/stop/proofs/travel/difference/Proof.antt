@@ -1,5 +1,5 @@
 -- `stop::travel::difference` meets its contract: the difference of two coordinates in range has at most 17 bits.
-use mathlib.Core.Path.{_≡_, refl}
+use mathlib.Core.Path.{refl}
 use Prim.Native.Nat.{_≤_}
 use native.Mathlib.Omega.{arith}
 use lib.IntN.{natAbs, _-ℤ_}

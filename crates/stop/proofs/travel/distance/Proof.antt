@@ -1,6 +1,6 @@
 -- `stop::travel::distance` meets its contract: the largest of three.
 use mathlib.Core.Path.{_≡_}
-use Prim.Native.Nat.{_≤_, max}
+use Prim.Native.Nat.{max}
 use native.Mathlib.Omega.{arith}
 use borrow.Author.Needs.{needs}
 use Rattle.stop.specs.Stop.{coordinate}

@@ -1,5 +1,5 @@
 -- `times::fill::entry` meets its contract: two stops are read and timed.
-use mathlib.Core.Path.{_≡_, ap, _∙_}
+use mathlib.Core.Path.{_≡_}
 use denote.Ref.{now}
 use borrow.Author.Needs.{needs}
 use Rattle.stop.specs.Lent.{stopAt}

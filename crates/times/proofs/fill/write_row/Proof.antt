@@ -1,13 +1,12 @@
 -- `times::fill::write_row` meets its contract. The invariant: the times up to `to` are written, and the rest is as it was.
-use mathlib.Core.Path.{_≡_, refl, sym, ap, _∙_}
-use mathlib.Core.List.{List}
-use Prim.Native.Nat.{ℕ, _+_, _-_, _≤_, _<_}
+use mathlib.Core.Path.{_≡_, refl}
+use Prim.Native.Nat.{ℕ, _+_, _-_, _≤_}
 use native.Mathlib.Omega.{arith}
 use lib.ListN.{length, set, length-set}
 use denote.Ref.{now}
 use borrow.Author.Needs.{needs}
 use Rattle.times.specs.Lent.{lentTime}
-use Rattle.times.proofs.Written.{written, written-none, written-more, length-written}
+use Rattle.times.proofs.Written.{written, written-none, written-more}
 use Rattle.times.proofs.fill.write_row.Statement.{statement}
 use Rattle.times.proofs.fill.write_row.Tie as tie
 
