@@ -5,7 +5,7 @@ use Prim.Native.Nat.{ℕ, zero, suc, _≤_}
 use native.Mathlib.Omega.{arith}
 use lib.Dec.{leb, eqb, lit≤}
 use lib.ListN.{length, List·getD-eq-default}
-use lib.IntN.{ℤ, pos, negsuc, natAbs}
+use lib.IntN.{ℤ, pos, negsuc, negℤ, natAbs}
 use lib.Signed.{ltZ, leZ}
 use borrow.Author.Tests.{ltb-true, ltb-false, le-leb, lt-leb, eq-eqb, leb-true, eqb-true}
 use Rattle.stop.specs.declared.Stop.{Stop}
@@ -14,16 +14,16 @@ use Rattle.stop.proofs.Verdict.{test-passed, test-failed}
 use Rattle.stop.specs.Stop.{goodCoordinate, goodPoint, inRange, judgeStop, checkedStop, coordinate, zeroStop, coordinateLimit, slowest, fastest, largestBlend}
 
 -- a coordinate below the least one is out of range
-pub too-low : (x : ℤ) → ltZ x (negsuc 19999) ≡ true → goodCoordinate x ≡ false
+pub too-low : (x : ℤ) → ltZ x (negℤ (pos coordinateLimit)) ≡ true → goodCoordinate x ≡ false
 unfolding goodCoordinate
 too-low (pos n) h = absurd (false≢true h)
-too-low (negsuc n) h = lt-leb (suc n) coordinateLimit (omega (arith, ltb-true 19999 n h))
+too-low (negsuc n) h = lt-leb (suc n) coordinateLimit (omega (arith, ltb-true _ n h))
 
 -- from there on the upper limit decides
-pub not-low : (x : ℤ) → ltZ x (negsuc 19999) ≡ false → leZ x (pos 20000) ≡ goodCoordinate x
+pub not-low : (x : ℤ) → ltZ x (negℤ (pos coordinateLimit)) ≡ false → leZ x (pos coordinateLimit) ≡ goodCoordinate x
 unfolding goodCoordinate
 not-low (pos n) h = refl
-not-low (negsuc n) h = sym (le-leb (suc n) coordinateLimit (omega (arith, ltb-false 19999 n h)))
+not-low (negsuc n) h = sym (le-leb (suc n) coordinateLimit (omega (arith, ltb-false _ n h)))
 
 -- ---- what judging a stop tells
 
