@@ -1,18 +1,23 @@
 -- Laws of stops in lent buffers: how many there are and which, that buffers made of stops give them back whatever follows, and the
 -- other way round, and that a list is in range exactly if each of its stops is.
 use mathlib.Core.Path.{_≡_, refl, sym, ap, _∙_}
-use mathlib.Core.Bool.{Bool, true, false, _&&_, false≢true, and-false}
+use mathlib.Core.Bool.{true, false, _&&_, and-false}
 use mathlib.Core.List.{List, [], _∷_, _++_}
 use Prim.Native.Nat.{ℕ, zero, suc, _+_, _*_, _≤_, _<_, zero-le, suc-le-suc}
-use native.Mathlib.Nat.{le-of-suc-le-suc, not-suc-le-zero, mul-suc, add-comm}
+use native.Mathlib.Nat.{le-of-suc-le-suc, not-suc-le-zero}
+use native.Mathlib.Numerals.{one-add}
 use native.Mathlib.Omega.{arith}
-use lib.ListN.{length, getD, take, List·getD-eq-default}
+use lib.Dec.{leb}
+use lib.ListN.{length, getD, take, drop, length-map, List·getD-eq-default}
+use lib.Seq.{getD-drop}
 use lib.IntN.{ℤ, pos}
+use borrow.Author.Tests.{leb-true}
 use Rattle.stop.specs.declared.Stop.{Stop}
 use Rattle.stop.specs.Stop.{inRange, coordinate, zeroStop}
 use Rattle.stop.specs.Tabulate.{tabulate}
-use Rattle.stop.specs.Lent.{pointAt, stopAt, lentStops, coordsOf, speedsOf, blendsOf, allInRange, judgeAll}
-use Rattle.stop.proofs.Tabulate.{length-tabulate, getD-tabulate, tabulate-cong}
+use Rattle.stop.specs.Lent.{pointAt, stopAt, lentStops, coordsOf, speedsOf, blendsOf, allInRange, stopsFit, judgeAll, judgeLent}
+use Rattle.stop.proofs.Tabulate.{length-tabulate, getD-tabulate, tabulate-cong, tabulate-getD, map-tabulate}
+use Rattle.stop.proofs.Verdict.{test-passed, rest-passed}
 use Rattle.stop.proofs.Limits.{Good, good, and-left, and-right}
 
 -- ---- how many, and which
@@ -30,19 +35,17 @@ point-beyond coords i h =
     let beyond : (k : ℕ) → i ≤ k → getD coords k (pos 0) ≡ pos 0 = λ k l. List·getD-eq-default coords (pos 0) (omega arith) in
     rw (beyond (3 * i + 1) (omega arith), beyond (3 * i + 2) (omega arith), beyond (3 * i) (omega arith))
 
--- the stops after the first are those of the buffers after the first stop
-three-more : (i : ℕ) → 3 * suc i ≡ suc (suc (suc (3 * i)))
-three-more i = omega arith
-
-three-more-1 : (i : ℕ) → 3 * suc i + 1 ≡ suc (suc (suc (3 * i + 1)))
-three-more-1 i = omega arith
-
-three-more-2 : (i : ℕ) → 3 * suc i + 2 ≡ suc (suc (suc (3 * i + 2)))
-three-more-2 i = omega arith
-
-pub stopAt-suc : (x y z : ℤ) (coords : List ℤ) (v b : ℕ) (speeds blends : List ℕ) (i : ℕ) → stopAt (x ∷ y ∷ z ∷ coords) (v ∷ speeds) (b ∷ blends) (suc i) ≡ stopAt coords speeds blends i
+-- the stops after the first, without the first places
+pub stopAt-drop : (coords : List ℤ) (speeds blends : List ℕ) (i : ℕ) → stopAt coords speeds blends (suc i) ≡ stopAt (drop 3 coords) (drop 1 speeds) (drop 1 blends) i
 unfolding stopAt pointAt
-stopAt-suc x y z coords v b speeds blends i = rw (three-more-1 i, three-more-2 i, three-more i)
+stopAt-drop coords speeds blends i =
+    let next : (k m : ℕ) → k ≡ 3 + m → getD coords k (pos 0) ≡ getD (drop 3 coords) m (pos 0) = λ k m e. ap (λ (p : ℕ). getD coords p (pos 0)) e ∙ sym (getD-drop 3 coords m (pos 0)) in
+    let x : getD coords (3 * suc i) (pos 0) ≡ getD (drop 3 coords) (3 * i) (pos 0) = next (3 * suc i) (3 * i) (omega arith) in
+    let y : getD coords (3 * suc i + 1) (pos 0) ≡ getD (drop 3 coords) (3 * i + 1) (pos 0) = next (3 * suc i + 1) (3 * i + 1) (omega arith) in
+    let z : getD coords (3 * suc i + 2) (pos 0) ≡ getD (drop 3 coords) (3 * i + 2) (pos 0) = next (3 * suc i + 2) (3 * i + 2) (omega arith) in
+    let speed : getD speeds (suc i) 0 ≡ getD (drop 1 speeds) i 0 = ap (λ (p : ℕ). getD speeds p 0) (sym (one-add i)) ∙ sym (getD-drop 1 speeds i 0) in
+    let blend : getD blends (suc i) 0 ≡ getD (drop 1 blends) i 0 = ap (λ (p : ℕ). getD blends p 0) (sym (one-add i)) ∙ sym (getD-drop 1 blends i 0) in
+    cc
 
 -- ---- buffers made of stops
 
@@ -53,13 +56,11 @@ length-coordsOf (s ∷ ss) = let e : length (coordsOf ss) ≡ 3 * length ss = le
 
 pub length-speedsOf : (ss : List Stop) → length (speedsOf ss) ≡ length ss
 unfolding speedsOf
-length-speedsOf [] = refl
-length-speedsOf (s ∷ ss) = ap suc (length-speedsOf ss)
+length-speedsOf ss = length-map ss (λ (s : Stop). s .speed)
 
 pub length-blendsOf : (ss : List Stop) → length (blendsOf ss) ≡ length ss
 unfolding blendsOf
-length-blendsOf [] = refl
-length-blendsOf (s ∷ ss) = ap suc (length-blendsOf ss)
+length-blendsOf ss = length-map ss (λ (s : Stop). s .blend)
 
 -- a list of three is its three elements
 three-is : (l : List ℤ) → length l ≡ 3 → getD l 0 (pos 0) ∷ getD l 1 (pos 0) ∷ getD l 2 (pos 0) ∷ [] ≡ l
@@ -86,8 +87,32 @@ lent-of (s ∷ ss) coords speeds blends g =
     (tabulate-cong (length ss)
     (λ i. stopAt (coordinate s 0 ∷ coordinate s 1 ∷ coordinate s 2 ∷ (coordsOf ss ++ coords)) (s .speed ∷ (speedsOf ss ++ speeds)) (s .blend ∷ (blendsOf ss ++ blends)) (suc i))
     (stopAt (coordsOf ss ++ coords) (speedsOf ss ++ speeds) (blendsOf ss ++ blends))
-    (λ i h. stopAt-suc (coordinate s 0) (coordinate s 1) (coordinate s 2) (coordsOf ss ++ coords) (s .speed) (s .blend) (speedsOf ss ++ speeds) (blendsOf ss ++ blends) i)
+    (λ i h. stopAt-drop (coordinate s 0 ∷ coordinate s 1 ∷ coordinate s 2 ∷ (coordsOf ss ++ coords)) (s .speed ∷ (speedsOf ss ++ speeds)) (s .blend ∷ (blendsOf ss ++ blends)) i)
     ∙ lent-of ss coords speeds blends (and-right (inRange s) (allInRange ss) g)))
+
+-- ---- buffers made of lent stops are the first places of those buffers
+
+pub coordsOf-lent : (n : ℕ) (coords : List ℤ) (speeds blends : List ℕ) → 3 * n ≤ length coords → coordsOf (lentStops n coords speeds blends) ≡ take (3 * n) coords
+unfolding coordsOf stopAt pointAt
+coordsOf-lent zero coords speeds blends h = refl
+coordsOf-lent (suc n) [] speeds blends h = absurd (omega arith)
+coordsOf-lent (suc n) (x ∷ []) speeds blends h = absurd (omega arith)
+coordsOf-lent (suc n) (x ∷ y ∷ []) speeds blends h = absurd (omega arith)
+coordsOf-lent (suc n) (x ∷ y ∷ z ∷ coords) speeds blends h =
+    let rest : tabulate n (λ i. stopAt (x ∷ y ∷ z ∷ coords) speeds blends (suc i)) ≡ lentStops n coords (drop 1 speeds) (drop 1 blends) = tabulate-cong n (λ i. stopAt (x ∷ y ∷ z ∷ coords) speeds blends (suc i)) (stopAt coords (drop 1 speeds) (drop 1 blends)) (λ i k. stopAt-drop (x ∷ y ∷ z ∷ coords) speeds blends i) in
+    let more : 3 * suc n ≡ suc (suc (suc (3 * n))) = omega arith in
+    ap (λ (l : List ℤ). x ∷ y ∷ z ∷ l) (ap coordsOf rest ∙ coordsOf-lent n coords (drop 1 speeds) (drop 1 blends) (omega arith))
+    ∙ ap (λ (k : ℕ). take k (x ∷ y ∷ z ∷ coords)) (sym more)
+
+pub speedsOf-lent : (n : ℕ) (coords : List ℤ) (speeds blends : List ℕ) → n ≤ length speeds → speedsOf (lentStops n coords speeds blends) ≡ take n speeds
+unfolding speedsOf stopAt
+speedsOf-lent n coords speeds blends h =
+    map-tabulate (λ (s : Stop). s .speed) n (stopAt coords speeds blends) ∙ tabulate-getD n speeds 0 h
+
+pub blendsOf-lent : (n : ℕ) (coords : List ℤ) (speeds blends : List ℕ) → n ≤ length blends → blendsOf (lentStops n coords speeds blends) ≡ take n blends
+unfolding blendsOf stopAt
+blendsOf-lent n coords speeds blends h =
+    map-tabulate (λ (s : Stop). s .blend) n (stopAt coords speeds blends) ∙ tabulate-getD n blends 0 h
 
 -- ---- a list is in range exactly if each of its stops is
 
@@ -123,3 +148,27 @@ pub lent-good : (n : ℕ) (coords : List ℤ) (speeds blends : List ℕ) (i : �
 lent-good n coords speeds blends i g h =
     ap inRange (sym (getD-lent n coords speeds blends i zeroStop h))
     ∙ each-good (lentStops n coords speeds blends) i zeroStop g (rw (length-lent n coords speeds blends) h)
+
+-- ---- what judging lent stops tells
+
+-- the buffers have places for n stops, and those are in range
+pub record GoodLent (n : ℕ) (coords : List ℤ) (speeds blends : List ℕ) : Type 0 where
+  pub coordinatePlaces : 3 * n ≤ length coords
+  pub speedPlaces : n ≤ length speeds
+  pub blendPlaces : n ≤ length blends
+  pub stops : allInRange (lentStops n coords speeds blends) ≡ true
+
+pub judged-lent : (n : ℕ) (coords : List ℤ) (speeds blends : List ℕ) → judgeLent n coords speeds blends ≡ 0 → GoodLent n coords speeds blends
+unfolding judgeLent judgeAll stopsFit
+judged-lent n coords speeds blends e =
+    let pointsFit = leb (3 * n) (length coords) in
+    let speedsFit = leb n (length speeds) in
+    let blendsFit = leb n (length blends) in
+    let fits : (pointsFit && speedsFit && blendsFit) ≡ true = test-passed (pointsFit && speedsFit && blendsFit) _ 7 e in
+    let both : (pointsFit && speedsFit) ≡ true = and-left (pointsFit && speedsFit) blendsFit fits in
+    record {
+      coordinatePlaces = leb-true _ _ (and-left pointsFit speedsFit both);
+      speedPlaces = leb-true _ _ (and-right pointsFit speedsFit both);
+      blendPlaces = leb-true _ _ (and-right (pointsFit && speedsFit) blendsFit fits);
+      stops = test-passed (allInRange (lentStops n coords speeds blends)) 0 5 (rest-passed (pointsFit && speedsFit && blendsFit) _ 7 e);
+    }

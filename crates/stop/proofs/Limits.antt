@@ -1,28 +1,29 @@
 -- Laws of a stop's limits.
 use mathlib.Core.Path.{_≡_, refl, sym, _∙_}
 use mathlib.Core.Bool.{Bool, true, false, false≢true, cond, _&&_}
-use Prim.Native.Nat.{ℕ, suc, _≤_, _<_}
+use Prim.Native.Nat.{ℕ, zero, suc, _≤_}
 use native.Mathlib.Omega.{arith}
-use lib.Dec.{leb, ltb, eqb}
-use lib.ListN.{length}
-use lib.IntN.{ℤ, pos, negsuc, natAbs}
+use lib.Dec.{leb, eqb, lit≤}
+use lib.ListN.{length, List·getD-eq-default}
+use lib.IntN.{ℤ, pos, negsuc, negℤ, natAbs}
 use lib.Signed.{ltZ, leZ}
 use borrow.Author.Tests.{ltb-true, ltb-false, le-leb, lt-leb, eq-eqb, leb-true, eqb-true}
 use Rattle.stop.specs.declared.Stop.{Stop}
 use Rattle.stop.specs.declared.MadeStop.{MadeStop}
+use Rattle.stop.proofs.Verdict.{test-passed, test-failed}
 use Rattle.stop.specs.Stop.{goodCoordinate, goodPoint, inRange, judgeStop, checkedStop, coordinate, zeroStop, coordinateLimit, slowest, fastest, largestBlend}
 
 -- a coordinate below the least one is out of range
-pub too-low : (x : ℤ) → ltZ x (negsuc 19999) ≡ true → goodCoordinate x ≡ false
+pub too-low : (x : ℤ) → ltZ x (negℤ (pos coordinateLimit)) ≡ true → goodCoordinate x ≡ false
 unfolding goodCoordinate
 too-low (pos n) h = absurd (false≢true h)
-too-low (negsuc n) h = lt-leb (suc n) coordinateLimit (omega (arith, ltb-true 19999 n h))
+too-low (negsuc n) h = lt-leb (suc n) coordinateLimit (omega (arith, ltb-true _ n h))
 
 -- from there on the upper limit decides
-pub not-low : (x : ℤ) → ltZ x (negsuc 19999) ≡ false → leZ x (pos 20000) ≡ goodCoordinate x
+pub not-low : (x : ℤ) → ltZ x (negℤ (pos coordinateLimit)) ≡ false → leZ x (pos coordinateLimit) ≡ goodCoordinate x
 unfolding goodCoordinate
 not-low (pos n) h = refl
-not-low (negsuc n) h = sym (le-leb (suc n) coordinateLimit (omega (arith, ltb-false 19999 n h)))
+not-low (negsuc n) h = sym (le-leb (suc n) coordinateLimit (omega (arith, ltb-false _ n h)))
 
 -- ---- what judging a stop tells
 
@@ -35,20 +36,12 @@ all-passed s l x y z low high blend =
 -- a stop whose judgement is 0 is in range
 pub judged-good : (s : Stop) → judgeStop s ≡ 0 → inRange s ≡ true
 unfolding judgeStop
-judged-good s e = by-test (inRange s) e
-  where
-    by-test : (b : Bool) → _≡_ {A = ℕ} (cond b 0 6) 0 → b ≡ true
-    by-test true e = refl
-    by-test false e = absurd (omega arith)
+judged-good s e = test-passed (inRange s) 0 5 e
 
 -- any other judgement is 6, and the stop is out of range
 pub judged-bad : (s : Stop) → (judgeStop s ≡ 0 → ⊥) → inRange s ≡ false
 unfolding judgeStop
-judged-bad s f = by-test (inRange s) f
-  where
-    by-test : (b : Bool) → (_≡_ {A = ℕ} (cond b 0 6) 0 → ⊥) → b ≡ false
-    by-test true f = absurd (f refl)
-    by-test false f = refl
+judged-bad s f = test-failed (inRange s) 6 f
 
 -- a stop that is judged and then handed on, or zeros
 pub made-good : (s : Stop) (r : ℕ) → r ≡ judgeStop s → r ≡ 0 → _≡_ {A = MadeStop} (record { refused = r; stop = s }) (checkedStop s)
@@ -106,6 +99,16 @@ good s g =
       fast = leb-true _ _ (and-right (point && slow) fast g3);
       blend = leb-true _ _ (and-right (point && slow && fast) blend g);
     }
+
+-- every coordinate of a stop in range is within the limit
+pub coordinate-bound : (s : Stop) → Good s → (i : ℕ) → natAbs (coordinate s i) ≤ coordinateLimit
+coordinate-bound s g zero = g .x
+coordinate-bound s g (suc zero) = g .y
+coordinate-bound s g (suc (suc zero)) = g .z
+coordinate-bound s g (suc (suc (suc i))) = rw (List·getD-eq-default (s .at) (pos 0) (beyond i (g .three))) (lit≤ tt)
+  where
+    beyond : {l : ℕ} (i : ℕ) → l ≡ 3 → l ≤ suc (suc (suc i))
+    beyond i e = omega arith
 
 -- a stop that was made is in range
 abbrev checked : Bool → Stop → MadeStop

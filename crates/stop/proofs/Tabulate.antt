@@ -1,9 +1,9 @@
 -- Laws of `tabulate`.
-use mathlib.Core.Path.{_≡_, refl, ap, _∙_}
-use mathlib.Core.List.{List, [], _∷_, _++_}
-use Prim.Native.Nat.{ℕ, zero, suc, _<_, zero-le, suc-le-suc}
+use mathlib.Core.Path.{_≡_, refl, ap}
+use mathlib.Core.List.{List, [], _∷_, _++_, map}
+use Prim.Native.Nat.{ℕ, zero, suc, _≤_, _<_, zero-le, suc-le-suc}
 use native.Mathlib.Nat.{le-of-suc-le-suc, not-suc-le-zero}
-use lib.ListN.{length, getD}
+use lib.ListN.{length, getD, take}
 use Rattle.stop.specs.Tabulate.{tabulate}
 
 module _ {ℓ} {A : Type ℓ} where
@@ -28,7 +28,13 @@ module _ {ℓ} {A : Type ℓ} where
   tabulate-suc zero f = refl
   tabulate-suc (suc n) f = ap (λ (l : List A). f 0 ∷ l) (tabulate-suc n (λ i. f (suc i)))
 
-  -- a list is tabulated from its own elements
-  pub tabulate-getD : (l : List A) (d : A) → tabulate (length l) (λ i. getD l i d) ≡ l
-  tabulate-getD [] d = refl
-  tabulate-getD (a ∷ l) d = ap (λ (r : List A). a ∷ r) (tabulate-getD l d)
+  -- a list is tabulated from its own elements, and so is a first part of it
+  pub tabulate-getD : (n : ℕ) (l : List A) (d : A) → n ≤ length l → tabulate n (λ i. getD l i d) ≡ take n l
+  tabulate-getD zero l d h = refl
+  tabulate-getD (suc n) [] d h = absurd (not-suc-le-zero h)
+  tabulate-getD (suc n) (a ∷ l) d h = ap (λ (r : List A). a ∷ r) (tabulate-getD n l d (le-of-suc-le-suc h))
+
+  -- a function of each element
+  pub map-tabulate : {B : Type ℓ} (g : A → B) (n : ℕ) (f : ℕ → A) → map g (tabulate n f) ≡ tabulate n (λ i. g (f i))
+  map-tabulate g zero f = refl
+  map-tabulate {B} g (suc n) f = ap (λ (r : List B). g (f 0) ∷ r) (map-tabulate g n (λ i. f (suc i)))

@@ -29,12 +29,10 @@ coordsOf [] = []
 coordsOf (s ∷ ss) = coordinate s 0 ∷ coordinate s 1 ∷ coordinate s 2 ∷ coordsOf ss
 
 unfoldable pub speedsOf : List Stop → List ℕ
-speedsOf [] = []
-speedsOf (s ∷ ss) = s .speed ∷ speedsOf ss
+speedsOf ss = map (λ (s : Stop). s .speed) ss
 
 unfoldable pub blendsOf : List Stop → List ℕ
-blendsOf [] = []
-blendsOf (s ∷ ss) = s .blend ∷ blendsOf ss
+blendsOf ss = map (λ (s : Stop). s .blend) ss
 
 -- every stop of the list is in range
 unfoldable pub allInRange : List Stop → Bool

@@ -2,3 +2,4 @@
 pub mod Stop
 pub mod Tabulate
 pub mod Lent
+pub mod Time

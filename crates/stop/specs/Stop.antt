@@ -1,6 +1,6 @@
 -- A stop and its limits: 'three coordinates x, y, z (signed, tenths of a millimetre, −20,000 to 20,000), a speed (1 to 2,000 mm/s)
 -- and a blend (0 to 500 tenths of a millimetre)'.
-use mathlib.Core.Bool.{Bool, true, false, cond, _&&_}
+use mathlib.Core.Bool.{Bool, cond, _&&_}
 use mathlib.Core.List.{List, [], _∷_}
 use Prim.Native.Nat.{ℕ}
 use lib.Dec.{leb, eqb}

@@ -1,11 +1,14 @@
-// A stop: its fields and their limits, and stops in lent buffers of numbers.
+// A stop: its fields and their limits, stops in lent buffers of numbers, and the time of a move between two.
 //
 // No public function has a `requires`. A stop out of range is refused by 6.
+
+mod travel;
 
 use base::OUT_OF_RANGE;
 use base::WRONG_SIZE;
 ghost use mathlib.Core.Path.{_≡_};
 ghost use lib.ListN.{getD};
+ghost use Rattle.stop.specs.Time.{judgeMove, Timed, timeOrZero};
 ghost use lib.IntN.{pos};
 ghost use Rattle.stop.specs.Lent.{stopAt, pointAt, lentStops, judgeAll, judgeLent};
 ghost use Rattle.stop.specs.Stop.{goodCoordinate, judgeStop, madeStop};
@@ -162,4 +165,45 @@ pub fn judge_stops(count: usize, coords: &[i32], speeds: &[u16], blends: &[u16])
         return WRONG_SIZE;
     }
     judge_each(count, coords, speeds, blends)
+}
+
+// The time of a move, or the number of its refusal.
+pub enum MoveTime {
+    Takes(u32),
+    Refused(u16),
+}
+
+// 0, or 6 where one of the two stops of a move is out of range.
+fn judge_move(from: Stop, to: Stop) -> u16
+    ensures { λ r. ⌜ r ≡ judgeMove from to ⌝ }
+{
+    let first = from.judge();
+    if first != 0 {
+        return first;
+    }
+    to.judge()
+}
+
+// The time of a move between two stops in milliseconds; 6 where one is out of range.
+pub fn move_time(from: Stop, to: Stop) -> MoveTime
+    ensures { λ r. ⌜ Timed from to r ⌝ }
+{
+    let refused = judge_move(from, to);
+    if refused != 0 {
+        return MoveTime::Refused(refused);
+    }
+    MoveTime::Takes(travel::time(from, to))
+}
+
+// The time from stop number i, `from`, to stop number j, `to`: 0 from a stop to itself, and 0 where one is out of range.
+pub fn time_between(i: usize, j: usize, from: Stop, to: Stop) -> u32
+    ensures { λ r. ⌜ r ≡ timeOrZero i j from to ⌝ }
+{
+    if judge_move(from, to) != 0 {
+        return 0;
+    }
+    if i == j {
+        return 0;
+    }
+    travel::time(from, to)
 }

@@ -1,5 +1,5 @@
 -- `stop::good_coordinate` meets its contract: the two tests are the two ends of the range.
-use mathlib.Core.Path.{_≡_, sym, _∙_, ap}
+use mathlib.Core.Path.{sym}
 use borrow.Author.Needs.{needs}
 use mir.Syntax.{w32}
 use mir.ValLaws.{toZ-ofZ}

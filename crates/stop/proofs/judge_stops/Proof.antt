@@ -1,5 +1,4 @@
 -- `stop::judge_stops` meets its contract: three lengths, then each stop.
-use mathlib.Core.Path.{_≡_}
 use mathlib.Core.Bool.{and-false}
 use Prim.Native.Nat.{_*_}
 use native.Mathlib.Omega.{arith}

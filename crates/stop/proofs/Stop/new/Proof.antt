@@ -1,10 +1,5 @@
 -- `stop::Stop::new` meets its contract: `judge` tells whether the stop is in range.
-use mathlib.Core.Path.{_≡_, refl, sym, _∙_}
-use mathlib.Core.Bool.{Bool, true, false, cond}
-use Prim.Native.Nat.{ℕ}
 use borrow.Author.Needs.{needs}
-use Rattle.stop.specs.declared.Stop.{Stop}
-use Rattle.stop.specs.Stop.{judgeStop, checkedStop, zeroStop}
 use Rattle.stop.proofs.Limits.{made-good, made-bad}
 use Rattle.stop.proofs.Stop.new.Statement.{statement}
 use Rattle.stop.proofs.Stop.new.Tie as tie
