@@ -6,3 +6,5 @@ pub mod OverLaws
 pub mod PlaceLaws
 pub mod ReadLaws
 pub mod StopLaws
+pub mod WriteLaws
+pub mod WrittenLaws

@@ -3,7 +3,7 @@ use mathlib.Core.Path.{_≡_, refl, sym}
 use mathlib.Core.Bool.{Bool, true, false}
 use mathlib.Core.List.{List, [], _∷_}
 use Prim.Native.Nat.{ℕ, zero, suc, _+_, _*_, _≤_, _<_, min}
-use native.Mathlib.Nat.{zero-add, zero-mul, suc-mul}
+use native.Mathlib.Nat.{mul-le-mul-right, suc-mul, zero-add, zero-mul}
 use native.Mathlib.Omega.{arith}
 use lib.Dec.{leb}
 use lib.ListN.{length, take, drop, drop-of-length-le}
@@ -44,6 +44,10 @@ place-is version i = refl
 pub place-suc : (version i : ℕ) → stopPlace version (suc i) ≡ stopPlace version i + stopSize version
 unfolding stopPlace
 place-suc version i = rw suc-mul (omega arith)
+
+-- one more stop before another lies before it
+pub next-place : (i n size : ℕ) → i < n → i * size + size ≤ n * size
+next-place i n size h = rw suc-mul at (mul-le-mul-right size h)
 
 -- past the end every place leaves nothing
 pub drop-min-add : (d a b : ℕ) (s : List ℕ) → length s ≤ b → drop (d + min a b) s ≡ drop (d + a) s

@@ -108,6 +108,10 @@ stopSize version = 2 + recordLength stopKind version 0
 unfoldable pub stopPlace : (version i : ℕ) → ℕ
 stopPlace version i = 8 + i * stopSize version
 
+-- the bytes that a path of 2^k stops takes: the head's 8, the stops, the end's 4
+unfoldable pub pathSize : (version k : ℕ) → ℕ
+pathSize version k = 12 + stopCount k * stopSize version
+
 -- stop i of path bytes, whatever they are: a byte that is not there counts as 0
 unfoldable pub stopIn : (version i : ℕ) (bytes : List ℕ) → Stop
 stopIn version i bytes = stopOf version (drop (4 + stopPlace version i) bytes)

@@ -3,14 +3,13 @@ use mathlib.Core.Bool.{Bool, false, cond, _||_, not}
 use mathlib.Core.List.{List, [], _∷_, _++_}
 use Prim.Native.Nat.{ℕ}
 use lib.Dec.{leb, ltb, eqb}
-use lib.IntN.{ℤ}
-use lib.ListN.{length}
+use lib.IntN.{ℤ, pos}
+use lib.ListN.{length, getD}
 use Rattle.base.specs.Refusal.{accepted, wrongVersion, wrongK, wrongSize, lostBlend}
 use Rattle.base.specs.Size.{maxK, stopCount}
 use Rattle.records.specs.Field.{bytesOf, unsigned}
 use Rattle.records.specs.Record.{recordBytes, pathKind, stopKind, endKind}
 use Rattle.stop.specs.declared.Stop.{Stop}
-use Rattle.stop.specs.Stop.{coordinate}
 use Rattle.stop.specs.Lent.{lentStops, judgeLent}
 use Rattle.path.specs.declared.PathWritten.{PathWritten}
 use Rattle.path.specs.declared.PathWritten.the-variants.{Wrote, Refused}
@@ -18,12 +17,17 @@ use Rattle.path.specs.Over.{over}
 use Rattle.path.specs.Path.{knownVersion}
 
 -- x, y, z
-unfoldable pub pointBytes : Stop → List ℕ
-pointBytes s = bytesOf 4 (unsigned (coordinate s 0)) ++ bytesOf 4 (unsigned (coordinate s 1)) ++ bytesOf 4 (unsigned (coordinate s 2))
+unfoldable pub pointBytes : List ℤ → List ℕ
+pointBytes point =
+    bytesOf 4 (unsigned (getD point 0 (pos 0))) ++ bytesOf 4 (unsigned (getD point 1 (pos 0))) ++ bytesOf 4 (unsigned (getD point 2 (pos 0)))
 
--- a stop's content: x, y, z, speed; from version 5 on also blend
+-- speed; from version 5 on also blend
+unfoldable pub paceBytes : (version speed blend : ℕ) → List ℕ
+paceBytes version speed blend = bytesOf 2 speed ++ cond (leb 5 version) (bytesOf 2 blend) []
+
+-- a stop's content
 unfoldable pub stopContent : (version : ℕ) → Stop → List ℕ
-stopContent version s = pointBytes s ++ bytesOf 2 (s .speed) ++ cond (leb 5 version) (bytesOf 2 (s .blend)) []
+stopContent version s = pointBytes (s .at) ++ paceBytes version (s .speed) (s .blend)
 
 unfoldable pub stopBytes : (version : ℕ) → Stop → List ℕ
 stopBytes version s = recordBytes stopKind (stopContent version s)

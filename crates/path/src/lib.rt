@@ -4,7 +4,10 @@
 // of `specs/Written.antt`.
 mod fill;
 mod judge;
+mod put;
 mod read;
+mod store;
+mod write;
 
 pub use judge::judge_body;
 pub use judge::judge_end;
@@ -13,9 +16,15 @@ pub use judge::judge_stop;
 pub use judge::known_version;
 pub use judge::stop_from;
 pub use judge::stop_size;
+pub use put::put_end;
+pub use put::put_head;
+pub use put::put_stop;
 pub use read::fill_path;
 pub use read::read_path;
 pub use read::stops_fit;
+pub use write::judge_write;
+pub use write::path_size;
+pub use write::write_path;
 
 // A judged head: `refused` 0, the version and k, or the refusal's number and zeros.
 pub struct Head {

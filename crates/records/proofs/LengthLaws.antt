@@ -1,12 +1,12 @@
 -- The lengths of records: the rule holds over the whole table, by one computed test; and the length of each kind as a number.
 use mathlib.Core.Path.{_≡_, refl, _∙_}
-use mathlib.Core.Bool.{Bool}
+use mathlib.Core.Bool.{Bool, true, false}
 use mathlib.Core.List.{List, [], _∷_}
 use Prim.Native.Nat.{ℕ, _+_, _*_, _/_, _%_, _≤_, _<_}
 use native.Mathlib.Omega.{arith}
-use lib.Dec.{eqb, eqb→eq}
+use lib.Dec.{eqb, eqb→eq, leb, leb→le}
 use lib.ListN.{length, getD}
-use borrow.Author.Tests.{le-leb, lt-leb}
+use borrow.Author.Tests.{le-leb, lt-leb, leb-true, leb-false}
 use Rattle.records.specs.Record.{recordLength, fields, stopFields, partFor, sum, isKind}
 use Rattle.records.proofs.Table.{at}
 
@@ -81,3 +81,22 @@ forks-length version n = refl
 pub refused-length : (version : ℕ) → recordLength 7 version 0 ≡ 4
 unfolding recordLength fields partFor sum isKind
 refused-length version = refl
+
+-- ---- no length is large
+
+small : ℕ → ℕ → Bool
+small i x = leb x 18
+
+entry-small : (i : ℕ) → i < 16 → getD lengths i 0 ≤ 18
+unfolding lengths small
+entry-small i h = leb→le (getD lengths i 0) 18 (at small lengths tt i h)
+
+pub length-small : (kind version : ℕ) → recordLength kind version 0 ≤ 18
+length-small kind version = by-kind (leb kind 7) refl (leb 5 version) refl
+  where
+    by-kind : (a : Bool) → leb kind 7 ≡ a → (b : Bool) → leb 5 version ≡ b → recordLength kind version 0 ≤ 18
+    by-kind false p b q = rw (length-unknown kind version 0 (leb-false _ _ p)) (omega arith)
+    by-kind true p true q =
+        rw (← table-new kind version (leb-true _ _ p) (leb-true _ _ q)) (entry-small (kind * 2 + 1) (omega (arith, leb-true kind 7 p)))
+    by-kind true p false q =
+        rw (← table-old kind version (leb-true _ _ p) (leb-false _ _ q)) (entry-small (kind * 2) (omega (arith, leb-true kind 7 p)))

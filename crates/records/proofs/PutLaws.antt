@@ -1,10 +1,10 @@
 -- Laws of bytes put into a buffer: one after the other is both at once.
 use mathlib.Core.Path.{_≡_, refl, sym, ap, _∙_}
-use mathlib.Core.List.{List, _++_, append-assoc}
+use mathlib.Core.List.{List, [], _++_, append-assoc, append-nil}
 use Prim.Native.Nat.{ℕ, _+_, _/_, _%_, _^_, _≤_, _<_}
-use native.Mathlib.Nat.{zero-add, add-assoc}
+use native.Mathlib.Nat.{zero-add, add-zero, add-assoc}
 use native.Mathlib.Omega.{arith}
-use lib.ListN.{length, take, drop, length-append, length-drop}
+use lib.ListN.{length, take, drop, length-append, length-drop, take-append-drop}
 use lib.Seq.{length-take-le, take-at, drop-drop, drop-append-add}
 use lib.Dec.{leb}
 use mathlib.Core.Bool.{Bool, true, false, cond}
@@ -68,3 +68,17 @@ two-parts w s at x t u fits first second =
     put-put s at (bytesOf w x) (bytesOf w (x / 256 ^ w)) (omega arith) in
     second
     ∙ rw (first, bytesOf-mod, bytesOf-parts) (rw low at joined)
+
+-- two puts side by side, and three, from the places that they were made at
+pub put-two : (s : List ℕ) (at : ℕ) (v w t u : List ℕ) (i : ℕ) → at + (length v + length w) ≤ length s → i ≡ at + length v → t ≡ put s at v → u ≡ put t i w → u ≡ put s at (v ++ w)
+put-two s at v w t u i fits ei et eu = eu ∙ rw (et, ei) (put-put s at v w fits)
+
+pub put-three : (s : List ℕ) (at : ℕ) (v w x t u r : List ℕ) (i j : ℕ) → at + (length v + length w + length x) ≤ length s → i ≡ at + length v → j ≡ at + length v + length w → t ≡ put s at v → u ≡ put t i w → r ≡ put u j x → r ≡ put s at (v ++ w ++ x)
+put-three s at v w x t u r i j fits ei ej et eu er =
+    let both : length (v ++ w) ≡ length v + length w = length-append v w in
+    put-two s at (v ++ w) x u r j (omega arith) (omega arith) (put-two s at v w t u i (omega arith) ei et eu) er
+
+-- nothing put leaves the buffer
+pub put-none : (s : List ℕ) (at : ℕ) → at ≤ length s → put s at [] ≡ s
+put-none s at h =
+    put-fits s at [] (omega (arith, add-zero at)) ∙ rw (add-zero, append-nil) (take-append-drop at s)
