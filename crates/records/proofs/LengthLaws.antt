@@ -1,5 +1,5 @@
 -- The lengths of records: the rule holds over the whole table, by one computed test; and the length of each kind as a number.
-use mathlib.Core.Path.{_≡_, _∙_}
+use mathlib.Core.Path.{_≡_, refl, _∙_}
 use mathlib.Core.Bool.{Bool}
 use mathlib.Core.List.{List, [], _∷_}
 use Prim.Native.Nat.{ℕ, _+_, _*_, _/_, _%_, _≤_, _<_}
@@ -47,3 +47,37 @@ table-new kind version k v =
     let half : (kind * 2 + 1) / 2 ≡ kind = omega arith in
     let odd : 4 + (kind * 2 + 1) % 2 ≡ 5 = omega arith in
     rw (length-new kind version 0 v) (lengths-rule (kind * 2 + 1) (omega arith) ∙ rw (half, odd))
+
+-- ---- the length of each kind
+
+pub path-length : (version : ℕ) → recordLength 1 version 0 ≡ 6
+unfolding recordLength fields partFor sum isKind
+path-length version = refl
+
+pub stop-length-4 : recordLength 2 4 0 ≡ 16
+unfolding recordLength fields stopFields partFor sum isKind
+stop-length-4 = refl
+
+pub stop-length-5 : recordLength 2 5 0 ≡ 18
+unfolding recordLength fields stopFields partFor sum isKind
+stop-length-5 = refl
+
+pub end-length : (version : ℕ) → recordLength 3 version 0 ≡ 2
+unfolding recordLength fields partFor sum isKind
+end-length version = refl
+
+pub order-length : (version : ℕ) → recordLength 4 version 0 ≡ 4
+unfolding recordLength fields partFor sum isKind
+order-length version = refl
+
+pub stops-length : (version n : ℕ) → recordLength 5 version n ≡ 10 + 2 * n
+unfolding recordLength fields partFor sum isKind
+stops-length version n = refl
+
+pub forks-length : (version n : ℕ) → recordLength 6 version n ≡ 2 + (n + 7) / 8
+unfolding recordLength fields partFor sum isKind
+forks-length version n = refl
+
+pub refused-length : (version : ℕ) → recordLength 7 version 0 ≡ 4
+unfolding recordLength fields partFor sum isKind
+refused-length version = refl

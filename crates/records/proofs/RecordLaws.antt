@@ -49,29 +49,33 @@ pub record Whole (kind long : ℕ) (s content rest : List ℕ) : Type 0 where
   pub content-is : content ≡ take (long - 2) (drop 4 s)
   pub rest-is : rest ≡ drop (2 + long) s
 
+module _ (kind long : ℕ) (s : List ℕ) where
+  -- a claim about what stands at the front of bytes is shown for a whole record and for each refusal, whose number is not 0
+  pub by-taken : (P : Taken → Type 0) → (Whole kind long s (take (long - 2) (drop 4 s)) (drop (2 + long) s) → P (taken (take (long - 2) (drop 4 s)) (drop (2 + long) s))) → ((n : ℕ) → (n ≡ 0 → ⊥) → P (refused n)) → P (takeRecord kind long s)
+  unfolding takeRecord
+  by-taken P good bad = by-size (ltb (length s) 4) refl
+    where
+      by-rest : 4 ≤ length s → isDue kind (kindSaid s) ≡ true → lengthSaid s ≡ long → (b : Bool) → leb (2 + long) (length s) ≡ b → P (cond b (taken (take (long - 2) (drop 4 s)) (drop (2 + long) s)) (refused 1))
+      by-rest h d l true e = good (record { present = h; due = d; says = l; enough = leb-true _ _ e; content-is = refl; rest-is = refl })
+      by-rest h d l false e = bad 1 (λ z. omega arith)
+
+      by-length : 4 ≤ length s → isDue kind (kindSaid s) ≡ true → (b : Bool) → eqb (lengthSaid s) long ≡ b → P (cond b (cond (leb (2 + long) (length s)) (taken (take (long - 2) (drop 4 s)) (drop (2 + long) s)) (refused 1)) (refused 2))
+      by-length h d true l = by-rest h d (eqb-true _ _ l) (leb (2 + long) (length s)) refl
+      by-length h d false l = bad 2 (λ z. omega arith)
+
+      by-kind : 4 ≤ length s → (b : Bool) → isDue kind (kindSaid s) ≡ b → P (cond b (cond (eqb (lengthSaid s) long) (cond (leb (2 + long) (length s)) (taken (take (long - 2) (drop 4 s)) (drop (2 + long) s)) (refused 1)) (refused 2)) (refused 3))
+      by-kind h true d = by-length h d (eqb (lengthSaid s) long) refl
+      by-kind h false d = bad 3 (λ z. omega arith)
+
+      by-size : (b : Bool) → ltb (length s) 4 ≡ b → P (cond b (refused 1) (cond (isDue kind (kindSaid s)) (cond (eqb (lengthSaid s) long) (cond (leb (2 + long) (length s)) (taken (take (long - 2) (drop 4 s)) (drop (2 + long) s)) (refused 1)) (refused 2)) (refused 3)))
+      by-size true h = bad 1 (λ z. omega arith)
+      by-size false h = by-kind (ltb-false _ _ h) (isDue kind (kindSaid s)) refl
+
 pub taken-whole : (kind long : ℕ) (s content rest : List ℕ) → takeRecord kind long s ≡ taken content rest → Whole kind long s content rest
-unfolding takeRecord
-taken-whole kind long s content rest e = by-size (ltb (length s) 4) refl e
-  where
-    Body : Bool → Taken
-    Body d = cond d (cond (eqb (lengthSaid s) long) (cond (leb (2 + long) (length s)) (taken (take (long - 2) (drop 4 s)) (drop (2 + long) s)) (refused 1)) (refused 2)) (refused 3)
-
-    by-rest : ltb (length s) 4 ≡ false → isDue kind (kindSaid s) ≡ true → eqb (lengthSaid s) long ≡ true → (b : Bool) → leb (2 + long) (length s) ≡ b → cond b (taken (take (long - 2) (drop 4 s)) (drop (2 + long) s)) (refused 1) ≡ taken content rest → Whole kind long s content rest
-    by-rest h d l true e q =
-        record { present = ltb-false _ _ h; due = d; says = eqb-true _ _ l; enough = leb-true _ _ e; content-is = cc; rest-is = cc }
-    by-rest h d l false e q = absurd (let z : _≡_ {A = ℕ} 0 1 = cc in omega arith)
-
-    by-length : ltb (length s) 4 ≡ false → isDue kind (kindSaid s) ≡ true → (b : Bool) → eqb (lengthSaid s) long ≡ b → cond b (cond (leb (2 + long) (length s)) (taken (take (long - 2) (drop 4 s)) (drop (2 + long) s)) (refused 1)) (refused 2) ≡ taken content rest → Whole kind long s content rest
-    by-length h d true l q = by-rest h d l (leb (2 + long) (length s)) refl q
-    by-length h d false l q = absurd (let z : _≡_ {A = ℕ} 0 1 = cc in omega arith)
-
-    by-kind : ltb (length s) 4 ≡ false → (b : Bool) → isDue kind (kindSaid s) ≡ b → Body b ≡ taken content rest → Whole kind long s content rest
-    by-kind h true d q = by-length h d (eqb (lengthSaid s) long) refl q
-    by-kind h false d q = absurd (let z : _≡_ {A = ℕ} 0 1 = cc in omega arith)
-
-    by-size : (b : Bool) → ltb (length s) 4 ≡ b → cond b (refused 1) (Body (isDue kind (kindSaid s))) ≡ taken content rest → Whole kind long s content rest
-    by-size true h q = absurd (let z : _≡_ {A = ℕ} 0 1 = cc in omega arith)
-    by-size false h q = by-kind h (isDue kind (kindSaid s)) refl q
+taken-whole kind long s content rest =
+    by-taken kind long s (λ t. t ≡ taken content rest → Whole kind long s content rest)
+    (λ w e. record { present = w .present; due = w .due; says = w .says; enough = w .enough; content-is = cc; rest-is = cc })
+    (λ n f e. absurd (let z : _≡_ {A = ℕ} 0 1 = cc in omega arith))
 
 -- the number of each outcome
 pub number-taken : (content rest : List ℕ) → takenNumber (taken content rest) ≡ 0
@@ -81,6 +85,19 @@ number-taken content rest = refl
 pub number-refused : (n : ℕ) → takenNumber (refused n) ≡ n
 unfolding takenNumber
 number-refused n = refl
+
+-- a number that is not 0 is the refusal's
+pub number-bad : (t : Taken) → (takenNumber t ≡ 0 → ⊥) → t ≡ refused (takenNumber t)
+unfolding takenNumber
+number-bad (taken content rest) f = absurd (f refl)
+number-bad (refused n) f = refl
+
+-- the number 0 is that of a whole record
+pub number-good : (kind long : ℕ) (s : List ℕ) → takenNumber (takeRecord kind long s) ≡ 0 → takeRecord kind long s ≡ taken (take (long - 2) (drop 4 s)) (drop (2 + long) s)
+number-good kind long s =
+    by-taken kind long s (λ t. takenNumber t ≡ 0 → t ≡ taken (take (long - 2) (drop 4 s)) (drop (2 + long) s))
+    (λ w e. refl)
+    (λ n f e. absurd (f (sym (number-refused n) ∙ e)))
 
 -- ---- a written record is taken whole
 

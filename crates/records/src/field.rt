@@ -1,5 +1,6 @@
 // Fields: read from bytes and written to them, least byte first.
 ghost use mathlib.Core.Path.{_≡_};
+ghost use mathlib.Core.List.{_++_};
 ghost use Prim.Native.Nat.{_<_};
 ghost use lib.ListN.{length, take, drop, getD};
 ghost use Rattle.records.specs.Field.{number, bytesOf, signed, unsigned};
@@ -136,4 +137,17 @@ pub fn put_signed(s: &mut [u8], at: usize, value: i32)
     ensures { λ r. ⌜ now (s .exit) ≡ put (now (s .entry)) at (bytesOf 4 (unsigned value)) ⌝ }
 {
     put32(s, at, to_unsigned(value))
+}
+
+// Writes two 2-byte fields at `at`, one after the other, or nothing where they do not fit whole.
+pub fn put_pair(s: &mut [u8], at: usize, first: u16, second: u16)
+    ensures { λ r. ⌜ now (s .exit) ≡ put (now (s .entry)) at (bytesOf 2 first ++ bytesOf 2 second) ⌝ }
+{
+    if s.len() < 4 {
+        return;
+    }
+    if at <= s.len() - 4 {
+        put16(s, at, first);
+        put16(s, at + 2, second);
+    }
 }

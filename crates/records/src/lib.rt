@@ -8,6 +8,7 @@ pub use field::after;
 pub use field::field16;
 pub use field::field32;
 pub use field::field64;
+pub use field::put_pair;
 pub use field::put_signed;
 pub use field::put16;
 pub use field::put32;

@@ -1,0 +1,7 @@
+-- Laws of the crate's definitions.
+pub mod Tabulate
+pub mod Verdict
+pub mod Limits
+pub mod Lent
+pub mod Signed
+pub mod Time

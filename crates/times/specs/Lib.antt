@@ -1,0 +1,4 @@
+-- The table of travel times.
+pub mod Rows
+pub mod Table
+pub mod Lent
