@@ -1,0 +1,11 @@
+-- Laws of the crate's definitions.
+pub mod Same
+pub mod Allowed
+pub mod Bits
+pub mod Marks
+pub mod Fill
+pub mod Size
+pub mod Shift
+pub mod Calls
+pub mod Way
+pub mod RoundTrip

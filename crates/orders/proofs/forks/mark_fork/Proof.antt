@@ -1,0 +1,103 @@
+-- `orders::forks::mark_fork` meets its contract: to halve a number t times is to divide it by the reach.
+use mathlib.Core.Path.{_≡_, sym, ap, _∙_}
+use Prim.Native.Nat.{ℕ, _+_, _*_, _/_, _^_, _≤_, _<_}
+use native.Mathlib.Nat.{div-div-eq-div-mul, div-le-self}
+use native.Mathlib.Omega.{arith}
+use Rattle.base.specs.Size.{maxK, stopCount}
+use Rattle.base.proofs.Size.{stopCount-pow, pow-le-1024}
+use Rattle.tree.specs.Neighbour.{reach, reachOf, lowestFork}
+use Rattle.tree.proofs.Beside.{reachOf-pos}
+use Rattle.orders.specs.Bits.{raised}
+use Rattle.orders.proofs.Shift.{reach-pos, reach-lt, lowest-shift, marked-exchanged, marked-kept}
+use borrow.Author.Needs.{needs}
+use Rattle.orders.proofs.forks.mark_fork.Statement.{statement}
+use Rattle.orders.proofs.forks.mark_fork.Tie as tie
+
+-- what the calls give: n and r
+record Known (k p n r : ℕ) : Type 0 where
+  count : n ≡ 2 ^ k
+  small : n ≤ 1024
+  is : r ≡ reach p
+  pos : 0 < r
+  below : r < n
+
+known : (k p n r : ℕ) → k ≤ maxK → 0 < p → p < 2 ^ k → n ≡ stopCount k → r ≡ reachOf p → Known k p n r
+known k p n r h a b e f =
+    let c : n ≡ 2 ^ k = e ∙ stopCount-pow k h in
+    let i : r ≡ reach p = f ∙ reachOf-pos p a in
+    record { count = c; small = omega (arith, pow-le-1024 k h); is = i; pos = omega (arith, reach-pos p); below = omega (arith, reach-lt k p a b) }
+
+-- the fork's number as the code has it
+fork-is : (k p b n r : ℕ) → 0 < p → p < 2 ^ k → Known k p n r → (n + b) / (2 * r) ≡ lowestFork k p b
+fork-is k p b n r x y w = rw (w .count, w .is) (lowest-shift k p b x y)
+
+-- it is below n
+fork-lt : (n b r : ℕ) → b < n → (n + b) / (2 * r) < n
+fork-lt n b r h = omega (arith, div-div-eq-div-mul (n + b) 2 r, div-le-self ((n + b) / 2) r)
+
+stop-count-requires : tie.Need-stop-count-requires
+stop-count-requires c κs = search needs
+
+reach-requires : tie.Need-reach-requires
+reach-requires c κs = search needs
+
+-- what is known where the bit is to be set
+at-raise : (c : tie.After-raise-arg) → Known (c .before .before .before .before .before .args .k) (c .before .before .before .before .before .args .p) (c .before .before .before .stop-count .result) (c .before .before .reach .result)
+at-raise c =
+    let s = c .before .before .before .before .before in
+    known (s .args .k) (s .args .p) _ _ (s .pre .0) (s .pre .1) (s .pre .2) (c .before .before .before .stop-count .ensures) (c .before .before .reach .ensures)
+
+div-if1 : tie.Need-div-if1
+div-if1 c =
+    let s = c .before .before .before in
+    let w = known (s .args .k) (s .args .p) (c .before .stop-count .result) (c .reach .result) (s .pre .0) (s .pre .1) (s .pre .2) (c .before .stop-count .ensures) (c .reach .ensures) in
+    w .pos
+
+add-raise : tie.Need-add-raise
+add-raise c = record { fits = omega (arith, at-raise c .small, at-raise c .count, c .before .before .before .before .before .pre .3) }
+
+mul-raise : tie.Need-mul-raise
+mul-raise c = record { fits = omega (arith, at-raise c .small, at-raise c .below) }
+
+div-raise : tie.Need-div-raise
+div-raise c = omega (arith, at-raise c .pos)
+
+raise-requires : tie.Need-raise-requires
+raise-requires c κs =
+    let s = c .before .before .before .before .before in
+    let n : ℕ = c .before .before .before .stop-count .result in
+    let r : ℕ = c .before .before .reach .result in
+    omega (arith, at-raise c .count, s .pre .4, fork-lt n (s .args .stop) r (omega (arith, at-raise c .count, s .pre .3)))
+
+same-length : tie.Need-same-length
+same-length c = search needs
+
+returns : tie.Need-returns
+returns c =
+    let r = c .before .before .before in
+    let s = r .before .before .before .before .before in
+    let w = at-raise r in
+    c .before .before .raise .ensures
+    ∙ ap (raised (s .args .bits .now)) (fork-is (s .args .k) (s .args .p) (s .args .stop) _ _ (s .pre .1) (s .pre .2) w)
+    ∙ sym (marked-exchanged (s .args .k) (s .args .p) (s .args .stop) (s .args .bits .now) (rw (w .is) at (r .before .if1 .taken)))
+
+returns-2 : tie.Need-returns-2
+returns-2 c =
+    let s = c .before .before .before .before in
+    let w = known (s .args .k) (s .args .p) (c .before .before .stop-count .result) (c .before .reach .result) (s .pre .0) (s .pre .1) (s .pre .2) (c .before .before .stop-count .ensures) (c .before .reach .ensures) in
+    sym (marked-kept (s .args .k) (s .args .p) (s .args .stop) (s .args .bits .now) (rw (w .is) at (c .if1 .left)))
+
+pub mark-fork-spec : {M : Type 1} → statement M
+mark-fork-spec =
+    tie.close
+    (tie.spec
+    stop-count-requires
+    reach-requires
+    div-if1
+    add-raise
+    mul-raise
+    div-raise
+    raise-requires
+    same-length
+    returns
+    returns-2)

@@ -1,0 +1,74 @@
+-- Laws of places in path bytes: where the record of a stop begins, and what a place past the end leaves.
+use mathlib.Core.Path.{_≡_, refl, sym}
+use mathlib.Core.Bool.{Bool, true, false}
+use mathlib.Core.List.{List, [], _∷_}
+use Prim.Native.Nat.{ℕ, zero, suc, _+_, _*_, _≤_, _<_, min}
+use native.Mathlib.Nat.{mul-le-mul-right, suc-mul, zero-add, zero-mul}
+use native.Mathlib.Omega.{arith}
+use lib.Dec.{leb}
+use lib.ListN.{length, take, drop, drop-of-length-le}
+use lib.Seq.{take-take}
+use borrow.Author.Tests.{leb-true, leb-false}
+use Rattle.records.specs.Record.{recordLength}
+use Rattle.records.proofs.LengthLaws.{length-old, length-new, stop-length-4, stop-length-5}
+use Rattle.path.specs.Path.{stopPlace, stopSize}
+
+-- a stop's record takes 18 bytes below version 5 and 20 from there on
+pub size-old : (version : ℕ) → version < 5 → stopSize version ≡ 18
+unfolding stopSize
+size-old version h = rw (length-old 2 version 0 h, stop-length-4)
+
+pub size-new : (version : ℕ) → 5 ≤ version → stopSize version ≡ 20
+unfolding stopSize
+size-new version h = rw (length-new 2 version 0 h, stop-length-5)
+
+pub size-range : (version : ℕ) → (18 ≤ stopSize version) × (stopSize version ≤ 20)
+size-range version = pick (leb 5 version) refl
+  where
+    pick : (b : Bool) → leb 5 version ≡ b → (18 ≤ stopSize version) × (stopSize version ≤ 20)
+    pick true e = rw (size-new version (leb-true _ _ e)) (omega arith)
+    pick false e = rw (size-old version (leb-false _ _ e)) (omega arith)
+
+pub size-length : (version : ℕ) → stopSize version ≡ 2 + recordLength 2 version 0
+unfolding stopSize
+size-length version = refl
+
+pub place-zero : (version : ℕ) → stopPlace version 0 ≡ 8
+unfolding stopPlace
+place-zero version = rw zero-mul
+
+pub place-is : (version i : ℕ) → stopPlace version i ≡ 8 + i * stopSize version
+unfolding stopPlace
+place-is version i = refl
+
+pub place-suc : (version i : ℕ) → stopPlace version (suc i) ≡ stopPlace version i + stopSize version
+unfolding stopPlace
+place-suc version i = rw suc-mul (omega arith)
+
+-- one more stop before another lies before it
+pub next-place : (i n size : ℕ) → i < n → i * size + size ≤ n * size
+next-place i n size h = rw suc-mul at (mul-le-mul-right size h)
+
+-- past the end every place leaves nothing
+pub drop-min-add : (d a b : ℕ) (s : List ℕ) → length s ≤ b → drop (d + min a b) s ≡ drop (d + a) s
+drop-min-add d a b s h = pick (leb a b) refl
+  where
+    pick : (t : Bool) → leb a b ≡ t → drop (d + min a b) s ≡ drop (d + a) s
+    pick true e =
+        let le : a ≤ b = leb-true _ _ e in
+        let m : min a b ≡ a = omega arith in
+        rw m
+    pick false e =
+        let lt : b < a = leb-false _ _ e in
+        let m : min a b ≡ b = omega arith in
+        rw (m, drop-of-length-le s {i = d + b} (omega arith)) (sym (drop-of-length-le s {i = d + a} (omega arith)))
+
+pub drop-min : (a b : ℕ) (s : List ℕ) → length s ≤ b → drop (min a b) s ≡ drop a s
+drop-min a b s h = rw (zero-add, zero-add) at (drop-min-add 0 a b s h)
+
+-- a part that lies in the front is a part of the whole
+pub window : (w o m : ℕ) (s : List ℕ) → o + w ≤ m → take w (drop o (take m s)) ≡ take w (drop o s)
+window w zero m s h = take-take w m s (omega arith)
+window w (suc o) zero s h = absurd (omega arith)
+window w (suc o) (suc m) [] h = refl
+window w (suc o) (suc m) (b ∷ s) h = window w o m s (omega arith)

@@ -1,0 +1,122 @@
+-- Laws of what a path is written as: the parts of each record, and their lengths.
+use mathlib.Core.Path.{_≡_, refl, sym, _∙_}
+use mathlib.Core.Bool.{Bool, true, false, cond}
+use mathlib.Core.List.{List, [], _∷_, _++_, append-assoc, append-nil}
+use Prim.Native.Nat.{ℕ, _+_, _*_, _^_, _≤_, _<_}
+use native.Mathlib.Nat.{zero-mul, suc-mul, mul-le-mul-right}
+use native.Mathlib.Omega.{arith}
+use lib.Dec.{leb}
+use lib.IntN.{ℤ}
+use lib.Pow.{pow-mono}
+use lib.ListN.{length, length-append}
+use borrow.Author.Tests.{leb-true, leb-false, le-leb, lt-leb}
+use Rattle.base.specs.Size.{stopCount}
+use Rattle.records.specs.Field.{bytesOf}
+use Rattle.records.specs.Put.{put}
+use Rattle.records.specs.Record.{recordBytes, recordLength}
+use Rattle.records.proofs.FieldLaws.{length-bytesOf}
+use Rattle.records.proofs.LengthLaws.{path-length, end-length}
+use Rattle.records.proofs.PutLaws.{put-front}
+use Rattle.records.proofs.RecordLaws.{length-recordBytes}
+use Rattle.stop.specs.declared.Stop.{Stop}
+use Rattle.stop.specs.Lent.{lentStops}
+use Rattle.stop.proofs.Lent.{length-lent}
+use Rattle.path.specs.Over.{over}
+use Rattle.path.specs.Path.{stopSize, pathSize}
+use Rattle.path.specs.Written.{pointBytes, paceBytes, stopContent, stopBytes, stopsBytes, headBytes, pathBytes}
+use Rattle.path.proofs.PlaceLaws.{size-old, size-new, size-length, size-range}
+
+-- ---- lengths
+
+pub length-point : (point : List ℤ) → length (pointBytes point) ≡ 12
+unfolding pointBytes
+length-point point = rw (length-append, length-append, length-bytesOf, length-bytesOf, length-bytesOf)
+
+pub pace-old : (version speed blend : ℕ) → version < 5 → paceBytes version speed blend ≡ bytesOf 2 speed
+unfolding paceBytes
+pace-old version speed blend h = rw (lt-leb _ _ h, append-nil)
+
+pub pace-new : (version speed blend : ℕ) → 5 ≤ version → paceBytes version speed blend ≡ bytesOf 2 speed ++ bytesOf 2 blend
+unfolding paceBytes
+pace-new version speed blend h = rw (le-leb _ _ h)
+
+pub length-pace : (version speed blend : ℕ) → 16 + length (paceBytes version speed blend) ≡ stopSize version
+length-pace version speed blend = pick (leb 5 version) refl
+  where
+    pick : (b : Bool) → leb 5 version ≡ b → 16 + length (paceBytes version speed blend) ≡ stopSize version
+    pick true e =
+        rw (pace-new version speed blend (leb-true _ _ e), size-new version (leb-true _ _ e), length-append, length-bytesOf, length-bytesOf)
+    pick false e = rw (pace-old version speed blend (leb-false _ _ e), size-old version (leb-false _ _ e), length-bytesOf)
+
+pub length-content : (version : ℕ) (s : Stop) → 2 + length (stopContent version s) ≡ recordLength 2 version 0
+unfolding stopContent
+length-content version s =
+    let p : length (pointBytes (s .at)) ≡ 12 = length-point (s .at) in
+    let q : 16 + length (paceBytes version (s .speed) (s .blend)) ≡ stopSize version = length-pace version (s .speed) (s .blend) in
+    let z : stopSize version ≡ 2 + recordLength 2 version 0 = size-length version in
+    rw length-append (omega arith)
+
+pub length-stopBytes : (version : ℕ) (s : Stop) → length (stopBytes version s) ≡ stopSize version
+unfolding stopBytes
+length-stopBytes version s =
+    rw length-recordBytes (let c : 2 + length (stopContent version s) ≡ recordLength 2 version 0 = length-content version s in omega (arith, size-length version))
+
+pub length-stopsBytes : (version : ℕ) (ss : List Stop) → length (stopsBytes version ss) ≡ length ss * stopSize version
+unfolding stopsBytes
+length-stopsBytes version [] = rw zero-mul
+length-stopsBytes version (s ∷ ss) =
+    rw (length-append, length-stopBytes, suc-mul, length-stopsBytes version ss) (omega arith)
+
+pub length-headBytes : (version k : ℕ) → length (headBytes version k) ≡ 8
+unfolding headBytes
+length-headBytes version k = rw (length-recordBytes, length-append, length-bytesOf, length-bytesOf)
+
+pub length-pathBytes : (version k : ℕ) (ss : List Stop) → length (pathBytes version k ss) ≡ 12 + length ss * stopSize version
+unfolding pathBytes
+length-pathBytes version k ss =
+    rw (length-append, length-append, length-headBytes, length-stopsBytes, length-recordBytes 3 []) (omega arith)
+
+pub size-is : (version k : ℕ) → pathSize version k ≡ 12 + stopCount k * stopSize version
+unfolding pathSize
+size-is version k = refl
+
+pub length-written : (version k : ℕ) (coords : List ℤ) (speeds blends : List ℕ) → length (pathBytes version k (lentStops (stopCount k) coords speeds blends)) ≡ pathSize version k
+length-written version k coords speeds blends =
+    length-pathBytes version k (lentStops (stopCount k) coords speeds blends) ∙ rw (length-lent, size-is)
+
+-- a path has at most 1,024 stops
+pub count-range : (k : ℕ) → stopCount k ≤ 1024
+unfolding stopCount
+count-range k = pick (leb k 10) refl
+  where
+    pick : (b : Bool) → leb k 10 ≡ b → cond b (2 ^ k) 0 ≤ 1024
+    pick true e = pow-mono {j = 10} (leb-true k 10 e)
+    pick false e = omega arith
+
+pub bytes-range : (version k : ℕ) → stopCount k * stopSize version ≤ 20480
+bytes-range version k =
+    let a : stopCount k * stopSize version ≤ 1024 * stopSize version = mul-le-mul-right (stopSize version) (count-range k) in
+    omega (arith, size-range version)
+
+-- ---- parts
+
+pub head-parts : (version k : ℕ) → headBytes version k ≡ bytesOf 2 (recordLength 1 version 0) ++ bytesOf 2 1 ++ (bytesOf 2 version ++ bytesOf 2 k)
+unfolding headBytes recordBytes
+head-parts version k = rw (length-append, length-bytesOf, length-bytesOf, path-length)
+
+pub end-parts : recordBytes 3 [] ≡ bytesOf 2 (recordLength 3 4 0) ++ bytesOf 2 3
+unfolding recordBytes
+end-parts = rw (append-nil, end-length)
+
+content-parts : (version : ℕ) (s : Stop) (a : List ℕ) → a ++ stopContent version s ≡ a ++ pointBytes (s .at) ++ paceBytes version (s .speed) (s .blend)
+unfolding stopContent
+content-parts version s a = sym (append-assoc a (pointBytes (s .at)) (paceBytes version (s .speed) (s .blend)))
+
+pub stop-parts : (version : ℕ) (s : Stop) → stopBytes version s ≡ bytesOf 2 (recordLength 2 version 0) ++ bytesOf 2 2 ++ pointBytes (s .at) ++ paceBytes version (s .speed) (s .blend)
+unfolding stopBytes recordBytes
+stop-parts version s = rw (length-content version s) (content-parts version s (bytesOf 2 (recordLength 2 version 0) ++ bytesOf 2 2))
+
+-- what is put at the front is written over it
+pub put-over : (s v : List ℕ) → length v ≤ length s → put s 0 v ≡ over v s
+unfolding over
+put-over s v h = put-front s v h

@@ -1,0 +1,46 @@
+// Paths: read from bytes, judged whole before anything is written, and written to bytes.
+//
+// No public function has a `requires`. What path bytes mean is `readPath` of `specs/Path.antt`; what a path is written as is `pathBytes`
+// of `specs/Written.antt`.
+mod fill;
+mod judge;
+mod put;
+mod read;
+mod store;
+mod write;
+
+pub use judge::judge_body;
+pub use judge::judge_end;
+pub use judge::judge_head;
+pub use judge::judge_stop;
+pub use judge::known_version;
+pub use judge::stop_from;
+pub use judge::stop_size;
+pub use put::put_end;
+pub use put::put_head;
+pub use put::put_stop;
+pub use read::fill_path;
+pub use read::read_path;
+pub use read::stops_fit;
+pub use write::judge_write;
+pub use write::path_size;
+pub use write::write_path;
+
+// A judged head: `refused` 0, the version and k, or the refusal's number and zeros.
+pub struct Head {
+    pub refused: u16,
+    pub version: u16,
+    pub k: u16,
+}
+
+// What reading a path answers.
+pub enum PathRead {
+    Read { version: u16, k: u16 },
+    Refused(u16),
+}
+
+// What writing a path answers: the count of bytes written, or the refusal's number.
+pub enum PathWritten {
+    Wrote(u64),
+    Refused(u16),
+}

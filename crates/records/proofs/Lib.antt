@@ -1,0 +1,7 @@
+-- Laws of fields, of bytes put into a buffer, and of records.
+pub mod FieldLaws
+pub mod LengthLaws
+pub mod PutLaws
+pub mod RecordLaws
+mod SignedLaws
+mod Table

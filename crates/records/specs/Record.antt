@@ -1,0 +1,97 @@
+-- Records: 'A record is a 2-byte length counting the bytes after it, a 2-byte kind, the content.'
+use mathlib.Core.Bool.{Bool, cond, _&&_}
+use mathlib.Core.List.{List, [], _∷_, _++_}
+use Prim.Native.Nat.{ℕ, _+_, _-_, _*_, _/_}
+use lib.Dec.{leb, ltb, eqb}
+use lib.ListN.{length, take, drop}
+use Rattle.base.specs.Refusal.{accepted, truncated, wrongLength, wrongKind}
+use Rattle.records.specs.Field.{number, bytesOf}
+
+-- the kinds of the table in 'Records'
+abbrev pub pathKind : ℕ
+pathKind = 1
+
+abbrev pub stopKind : ℕ
+stopKind = 2
+
+abbrev pub endKind : ℕ
+endKind = 3
+
+abbrev pub orderKind : ℕ
+orderKind = 4
+
+abbrev pub stopsKind : ℕ
+stopsKind = 5
+
+abbrev pub forksKind : ℕ
+forksKind = 6
+
+abbrev pub refusedKind : ℕ
+refusedKind = 7
+
+-- a number that the table in 'Records' has
+unfoldable pub isKind : ℕ → Bool
+isKind kind = leb 1 kind && leb kind 7
+
+-- the widths of a stop's fields: x, y, z, speed; from version 5 on also blend
+unfoldable pub stopFields : (version : ℕ) → List ℕ
+stopFields version = 4 ∷ 4 ∷ 4 ∷ 2 ∷ cond (leb 5 version) (2 ∷ []) []
+
+-- the widths of the fields that a record's content begins with, by kind and version: path: version, k; stop; order: k;
+-- stops: total; refused: number; the others none
+unfoldable pub fields : (kind version : ℕ) → List ℕ
+fields kind version =
+    cond (eqb kind pathKind) (2 ∷ 2 ∷ [])
+    (cond (eqb kind stopKind) (stopFields version)
+    (cond (eqb kind orderKind) (2 ∷ [])
+    (cond (eqb kind stopsKind) (8 ∷ []) (cond (eqb kind refusedKind) (2 ∷ []) []))))
+
+-- 'kinds 5 and 6 add their part for n': 2 bytes for each stop; a bit for each fork, in whole bytes
+unfoldable pub partFor : (kind n : ℕ) → ℕ
+partFor kind n = cond (eqb kind stopsKind) (2 * n) (cond (eqb kind forksKind) ((n + 7) / 8) 0)
+
+-- the sum of widths
+unfoldable pub sum : List ℕ → ℕ
+sum [] = 0
+sum (w ∷ ws) = w + sum ws
+
+-- the length that a record says: 2 for the kind, the content's fields, and the part for n; 0 for a kind that the table lacks
+unfoldable pub recordLength : (kind version n : ℕ) → ℕ
+recordLength kind version n =
+    cond (isKind kind) (2 + sum (fields kind version) + partFor kind n) 0
+
+-- a record's bytes
+unfoldable pub recordBytes : (kind : ℕ) (content : List ℕ) → List ℕ
+recordBytes kind content = bytesOf 2 (2 + length content) ++ bytesOf 2 kind ++ content
+
+-- what stands at the front of bytes: a record's content and what comes after the record, or the refusal's number
+pub data Taken : Type 0 where
+  taken : (content rest : List ℕ) → Taken
+  refused : (number : ℕ) → Taken
+
+-- the length and the kind that the first four bytes say
+unfoldable pub lengthSaid : List ℕ → ℕ
+lengthSaid s = number (take 2 s)
+
+unfoldable pub kindSaid : List ℕ → ℕ
+kindSaid s = number (take 2 (drop 2 s))
+
+-- 'not the kind due here': no other kind of the table, and no unknown number, is the one due
+unfoldable pub isDue : (due found : ℕ) → Bool
+isDue due found = isKind found && eqb due found
+
+-- 'Each record: 4 bytes present (1), kind (3), length (2), bytes present (1)'
+unfoldable pub takeRecord : (kind long : ℕ) (s : List ℕ) → Taken
+takeRecord kind long s =
+    cond (ltb (length s) 4) (refused truncated)
+    (cond (isDue kind (kindSaid s))
+    (cond (eqb (lengthSaid s) long)
+    (cond (leb (2 + long) (length s)) (taken (take (long - 2) (drop 4 s)) (drop (2 + long) s))
+    (refused truncated))
+    (refused wrongLength))
+    (refused wrongKind))
+
+-- the number of what was found: a record has none
+unfoldable pub takenNumber : Taken → ℕ
+takenNumber (taken content rest) = accepted
+takenNumber (refused number) = number
