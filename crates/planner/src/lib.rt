@@ -1,6 +1,6 @@
 // The planner: the wanted order of 2^k stops, from a table of travel times (Algorithm 2 of document 000).
 //
-// `plan` is the one public function and has no `requires`. Its contract cites `specs/Plan.antt` and, through it, the order that is wanted by
+// No public function has a `requires`. The contract of `plan` cites `specs/Plan.antt` and, through it, the order that is wanted by
 // plain enumeration. The private modules hold the method: `choice` weighs candidates, `row` makes the rows of best totals and pivots, `halve`
 // halves the places by recursion.
 mod choice;
@@ -17,7 +17,7 @@ pub enum Planned {
 }
 
 // 0, or the number of the refusal for these lengths: k above 10 (5), then a table not n² long or a lent buffer too short (8).
-fn judge(k: u16, table: usize, order: usize, totals: usize, pivots: usize) -> u16
+pub fn judge_lengths(k: u16, table: usize, order: usize, totals: usize, pivots: usize) -> u16
     ensures { λ r. ⌜ r ≡ judgePlan k table order totals pivots ⌝ }
 {
     if 10 < k {
@@ -50,7 +50,7 @@ pub fn plan(
 ) -> Planned
     ensures { λ r. ⌜ Plans k (now (table .entry)) (now (order .entry)) (now (totals .entry)) (now (pivots .entry)) (now (order .exit)) (now (totals .exit)) (now (pivots .exit)) r ⌝ }
 {
-    let refused = judge(k, table.len(), order.len(), totals.len(), pivots.len());
+    let refused = judge_lengths(k, table.len(), order.len(), totals.len(), pivots.len());
     if refused != 0 {
         return Planned::Refused(refused);
     }

@@ -11,20 +11,20 @@ use borrow.Author.Needs.{needs}
 use Rattle.planner.proofs.plan.Statement.{statement}
 use Rattle.planner.proofs.plan.Tie as tie
 
-judge-requires : tie.Need-judge-requires
-judge-requires c κs = search needs
+judge-lengths-requires : tie.Need-judge-lengths-requires
+judge-lengths-requires c κs = search needs
 
 returns : tie.Need-returns
 returns c =
     let a = c .before .before .before .before .before .before .args in
-    plans-refused (a .k) (a .table .now) (a .order .now) (a .totals .now) (a .pivots .now) (c .before .judge .result) (c .before .judge .ensures) (c .if1 .taken)
+    plans-refused (a .k) (a .table .now) (a .order .now) (a .totals .now) (a .pivots .now) (c .before .judge-lengths .result) (c .before .judge-lengths .ensures) (c .if1 .taken)
 
 stop-count-requires : tie.Need-stop-count-requires
 stop-count-requires c κs = search needs
 
 -- the lengths of an accepted call
 fit : (c : tie.After-stop-count) → Fit (c .before .before .before .before .before .before .before .args .k) (length (c .before .before .before .before .before .before .before .args .table .now)) (length (c .before .before .before .before .before .before .before .args .order .now)) (length (c .before .before .before .before .before .before .before .args .totals .now)) (length (c .before .before .before .before .before .before .before .args .pivots .now))
-fit c = judged _ _ _ _ _ (sym (c .before .before .judge .ensures) ∙ c .before .if1 .left)
+fit c = judged _ _ _ _ _ (sym (c .before .before .judge-lengths .ensures) ∙ c .before .if1 .left)
 
 -- suffice for n stops
 lent : (c : tie.After-stop-count)
@@ -90,7 +90,7 @@ returns-2 : tie.Need-returns-2
 returns-2 c =
     let a = c .before .before .before .before .before .before .before .before .before .before .before .before .before .before .before .before .before .args in
     let e = c .before .before .before .before .before .before .before .before .before .before .stop-count .ensures in
-    let zero = sym (c .before .before .before .before .before .before .before .before .before .before .before .before .judge .ensures) ∙ c .before .before .before .before .before .before .before .before .before .before .before .if1 .left in
+    let zero = sym (c .before .before .before .before .before .before .before .before .before .before .before .before .judge-lengths .ensures) ∙ c .before .before .before .before .before .before .before .before .before .before .before .if1 .left in
     rw e (plans-done (a .k) (a .table .now) (a .order .now) (a .totals .now) (a .pivots .now) (c .before .before .before .before .before .before .run .last .1 .1 .0) (c .before .before .before .before .before .before .run .last .1 .1 .1 .0)
     (c .before .before .before .before .before .before .run .last .1 .1 .1 .1 .0) (c .before .before .before .before .before .before .run .result) zero (rw e at (c .before .before .before .before .before .before .run .ensures)))
 
@@ -98,7 +98,7 @@ pub plan-spec : {M : Type 1} → statement M
 plan-spec =
     tie.close
     (tie.spec
-    judge-requires
+    judge-lengths-requires
     returns
     stop-count-requires
     slice-relend-prefix-run

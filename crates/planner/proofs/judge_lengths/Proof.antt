@@ -1,4 +1,4 @@
--- `planner::judge` meets its contract.
+-- `planner::judge_lengths` meets its contract.
 use mathlib.Core.Path.{_≡_, _∙_}
 use Prim.Native.Nat.{ℕ, _^_, _≤_}
 use native.Mathlib.Omega.{arith}
@@ -7,8 +7,8 @@ use Rattle.base.proofs.Size.{stopCount-pow, pow-le-1024}
 use Rattle.planner.specs.Plan.{judgePlan, planFits}
 use Rattle.planner.proofs.Table.{square-small}
 use borrow.Author.Needs.{needs}
-use Rattle.planner.proofs.judge.Statement.{statement}
-use Rattle.planner.proofs.judge.Tie as tie
+use Rattle.planner.proofs.judge_lengths.Statement.{statement}
+use Rattle.planner.proofs.judge_lengths.Tie as tie
 
 returns : tie.Need-returns
 unfolding judgePlan
@@ -50,8 +50,8 @@ returns-6 : tie.Need-returns-6
 unfolding judgePlan planFits
 returns-6 c = rw (le-leb _ _ (c .before .before .before .before .before .if1 .left), ← (c .before .before .before .before .stop-count .ensures), eq-eqb _ _ (c .before .before .before .if2 .left), le-leb _ _ (c .before .before .if3 .left), le-leb _ _ (c .before .if4 .left), le-leb _ _ (c .if5 .left))
 
-pub judge-spec : {M : Type 1} → statement M
-judge-spec =
+pub judge-lengths-spec : {M : Type 1} → statement M
+judge-lengths-spec =
     tie.close
     (tie.spec
     returns
