@@ -1,0 +1,3 @@
+-- The worked examples of document 01.
+pub mod Example
+pub mod Listing
