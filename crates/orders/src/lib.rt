@@ -11,6 +11,7 @@ use base::WRONG_FORKS;
 use base::WRONG_K;
 use base::WRONG_SIZE;
 use base::stop_count;
+pub use forks::byte_count;
 ghost use mathlib.Core.Path.{_≡_};
 ghost use Rattle.orders.specs.Call.{judgeOrder};
 ghost use Rattle.orders.specs.Answer.{BitsPromise, OrderPromise, TotalPromise};
@@ -53,7 +54,7 @@ pub fn fork_bits(k: u16, order: &[u16], bits: &mut [u8]) -> BitsMade
     if 10 < k {
         return BitsMade::Refused(WRONG_K);
     }
-    if bits.len() < forks::byte_count(k) {
+    if bits.len() < byte_count(k) {
         return BitsMade::Refused(WRONG_SIZE);
     }
     let refused = judge_order(k, order);
@@ -71,7 +72,7 @@ pub fn order_of_bits(k: u16, bits: &[u8], order: &mut [u16]) -> OrderMade
     if 10 < k {
         return OrderMade::Refused(WRONG_K);
     }
-    if bits.len() < forks::byte_count(k) {
+    if bits.len() < byte_count(k) {
         return OrderMade::Refused(WRONG_SIZE);
     }
     if order.len() < stop_count(k) {

@@ -1,0 +1,6 @@
+-- Laws of the crate's definitions.
+pub mod Bytes
+pub mod Stages
+pub mod Sizes
+pub mod Outcome
+pub mod Putting
