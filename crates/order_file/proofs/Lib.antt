@@ -4,3 +4,4 @@ pub mod Stages
 pub mod Sizes
 pub mod Outcome
 pub mod Putting
+pub mod RoundTrip
