@@ -5,3 +5,4 @@ pub mod Sizes
 pub mod Outcome
 pub mod Putting
 pub mod RoundTrip
+pub mod Examples

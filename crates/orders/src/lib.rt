@@ -11,8 +11,9 @@ use base::WRONG_FORKS;
 use base::WRONG_K;
 use base::WRONG_SIZE;
 use base::stop_count;
-pub use forks::byte_count;
 ghost use mathlib.Core.Path.{_≡_};
+ghost use Rattle.base.specs.Size.{stopCount};
+ghost use Rattle.orders.specs.Bits.{byteCount};
 ghost use Rattle.orders.specs.Call.{judgeOrder};
 ghost use Rattle.orders.specs.Answer.{BitsPromise, OrderPromise, TotalPromise};
 
@@ -32,6 +33,13 @@ pub enum OrderMade {
 pub enum OrderTotal {
     Total(u64),
     Refused(u16),
+}
+
+// ceil(n/8), the bytes of a fork string.
+pub fn byte_count(k: u16) -> usize
+    ensures { λ r. ⌜ r ≡ byteCount (stopCount k) ⌝ }
+{
+    (stop_count(k) + 7) / 8
 }
 
 // 0 where the first n numbers are an allowed order, and otherwise the refusal's number.
