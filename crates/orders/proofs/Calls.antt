@@ -6,11 +6,12 @@ use Prim.Native.Nat.{ℕ, zero, suc, _*_, _^_, _≤_, _<_}
 use native.Mathlib.Omega.{arith}
 use lib.Dec.{leb}
 use lib.ListN.{length, drop}
-use borrow.Author.Tests.{le-leb, lt-leb, leb-true, eq-eqb, ne-eqb}
+use borrow.Author.Tests.{le-leb, lt-leb, leb-true, eq-eqb, eqb-true, ne-eqb}
 use Rattle.base.specs.Refusal.{accepted, wrongK, wrongSize}
 use Rattle.base.specs.Size.{maxK}
 use Rattle.orders.specs.declared.BitsMade.the-variants as bits-answer
 use Rattle.orders.specs.declared.OrderMade.the-variants as order-answer
+use Rattle.orders.specs.declared.OrderTotal.{OrderTotal}
 use Rattle.orders.specs.declared.OrderTotal.the-variants as total-answer
 use Rattle.tree.specs.Order.{orderOf}
 use Rattle.tree.proofs.Link.{length-orderOf}
@@ -18,6 +19,7 @@ use Rattle.records.proofs.FieldLaws.{length-bytesOf}
 use Rattle.orders.specs.Allowed.{judgeStops, forksOf}
 use Rattle.orders.specs.Bits.{byteCount, bitString, judgeForks}
 use Rattle.orders.specs.Call.{inSequence, written, valueOf, orderIn, forksIn, orderFits, bitsFit, tableFits, judgeOrder, bitsNumber, bitsLeft, orderNumber, orderLeft, totalNumber, totalOf, totalGiven}
+use Rattle.orders.proofs.Same.{both}
 use Rattle.orders.specs.Answer.{numberOfBits, numberOfOrder, numberOfTotal, valueOfTotal, bitsAnswer, orderAnswer, totalAnswer, BitsPromise, OrderPromise, TotalPromise}
 
 -- ---- which test decides
@@ -38,16 +40,26 @@ module _ (k : ℕ) where
   unfolding inSequence
   by-contents lengths contents h e = rw (le-leb _ _ h, e)
 
+-- where a call accepts, k, the lengths and the contents are good
+pub sequence-good : (k : ℕ) (lengths : Bool) (contents : ℕ) → inSequence k lengths contents ≡ accepted → (k ≤ maxK) × (lengths ≡ true) × (contents ≡ accepted)
+unfolding inSequence
+sequence-good k lengths contents e = go (leb k maxK) refl lengths e
+  where
+    go : (t : Bool) → leb k maxK ≡ t → (l : Bool) → cond t (cond l contents wrongSize) wrongK ≡ accepted → (k ≤ maxK) × (l ≡ true) × (contents ≡ accepted)
+    go true f true q = (leb-true _ _ f, refl, q)
+    go true f false q = absurd (omega arith)
+    go false f l q = absurd (omega arith)
+
 -- one of two lengths does not suffice
-short-first : (a b : Bool) → a ≡ false → (a && b) ≡ false
+pub short-first : (a b : Bool) → a ≡ false → (a && b) ≡ false
 short-first a b e = rw e
 
-short-second : (a b : Bool) → b ≡ false → (a && b) ≡ false
+pub short-second : (a b : Bool) → b ≡ false → (a && b) ≡ false
 short-second true b e = e
 short-second false b e = refl
 
 -- where the second does, the first decides
-first-decides : (a b : Bool) → b ≡ true → (a && b) ≡ a
+pub first-decides : (a b : Bool) → b ≡ true → (a && b) ≡ a
 first-decides true b e = e
 first-decides false b e = refl
 
@@ -123,6 +135,15 @@ judged-order k order h e = go (leb (2 ^ k) (length order)) refl (rw (le-leb _ _ 
     go true f q = (leb-true _ _ f, q)
     go false f q = absurd (omega arith)
 
+-- an order and a table that are judged 0
+pub total-accepted : (k : ℕ) (order table : List ℕ) → totalNumber k order table ≡ accepted
+    → (k ≤ maxK) × (2 ^ k ≤ length order) × (length table ≡ 2 ^ k * 2 ^ k) × (judgeStops k (orderIn k order) ≡ accepted)
+unfolding totalNumber
+total-accepted k order table e =
+    let g = sequence-good k (orderFits k order && tableFits k table) _ e in
+    let f = both (orderFits k order) (tableFits k table) (g .1) in
+    (g .0, leb-true _ _ (f .0), eqb-true _ _ (f .1), g .2)
+
 -- ---- what a buffer holds afterwards
 
 pub written-good : (number : ℕ) (result lent : List ℕ) → number ≡ accepted → written number result lent ≡ result ++ drop (length result) lent
@@ -140,6 +161,22 @@ value-good number value e = rw (eq-eqb _ _ e)
 pub value-bad : (number value : ℕ) → (number ≡ accepted → ⊥) → valueOf number value ≡ 0
 unfolding valueOf
 value-bad number value e = rw (ne-eqb _ _ e)
+
+-- what the two writing calls leave where they accept
+pub bits-left-good : (k : ℕ) (order bits : List ℕ) → bitsNumber k order bits ≡ accepted
+    → bitsLeft k order bits ≡ bitString k (forksOf k (orderIn k order)) ++ drop (byteCount (2 ^ k)) bits
+unfolding bitsLeft
+bits-left-good k order bits e = written-good _ (bitString k (forksOf k (orderIn k order))) bits e ∙ rw length-bytesOf
+
+pub order-left-good : (k : ℕ) (bits order : List ℕ) → orderNumber k bits order ≡ accepted
+    → orderLeft k bits order ≡ orderOf k (forksIn k bits) ++ drop (2 ^ k) order
+unfolding orderLeft
+order-left-good k bits order e = written-good _ (orderOf k (forksIn k bits)) order e ∙ rw length-orderOf
+
+-- fork bits of an order that was judged
+pub bits-ready : (k : ℕ) (order bits : List ℕ) → k ≤ maxK → 2 ^ k ≤ length order → judgeStops k (orderIn k order) ≡ accepted → byteCount (2 ^ k) ≤ length bits
+    → bitsNumber k order bits ≡ accepted
+bits-ready k order bits h long good fits = bits-judged k order bits fits ∙ judge-contents k order h long ∙ good
 
 -- ---- answers
 
@@ -172,11 +209,11 @@ module _ (k : ℕ) (order bits : List ℕ) where
   -- fork bits that are made
   pub bits-made : (after : List ℕ) → bitsNumber k order bits ≡ 0 → after ≡ bitString k (forksOf k (orderIn k order)) ++ drop (byteCount (2 ^ k)) bits
       → BitsPromise k order bits bits-answer.Made after
-  unfolding numberOfBits bitsAnswer bitsLeft
+  unfolding numberOfBits bitsAnswer
   bits-made after e a = record {
     answer = rw e;
     number = sym e;
-    left = a ∙ rw (written-good _ (bitString k (forksOf k (orderIn k order))) bits e, length-bytesOf);
+    left = a ∙ sym (bits-left-good k order bits e);
   }
 
 module _ (k : ℕ) (bits order : List ℕ) where
@@ -192,11 +229,11 @@ module _ (k : ℕ) (bits order : List ℕ) where
   -- an order that is made
   pub order-made : (after : List ℕ) → orderNumber k bits order ≡ 0 → after ≡ orderOf k (forksIn k bits) ++ drop (2 ^ k) order
       → OrderPromise k bits order order-answer.Made after
-  unfolding numberOfOrder orderAnswer orderLeft
+  unfolding numberOfOrder orderAnswer
   order-made after e a = record {
     answer = rw e;
     number = sym e;
-    left = a ∙ rw (written-good _ (orderOf k (forksIn k bits)) order e, length-orderOf k (forksIn k bits));
+    left = a ∙ sym (order-left-good k bits order e);
   }
 
 module _ (k : ℕ) (order table : List ℕ) where
@@ -213,3 +250,27 @@ module _ (k : ℕ) (order table : List ℕ) where
   pub total-given : (t : ℕ) → totalNumber k order table ≡ 0 → t ≡ totalOf k order table → TotalPromise k order table (total-answer.Total t)
   unfolding numberOfTotal valueOfTotal totalAnswer totalGiven
   total-given t e a = record { answer = rw (e, a); number = sym e; value = a ∙ sym (value-good _ _ e) }
+
+-- ---- what a caller learns from an answer
+
+module _ (k : ℕ) (order table : List ℕ) (r : OrderTotal) (promise : TotalPromise k order table r) where
+  -- a refusal has the call's number, which is not 0
+  pub total-refused-is : (x : ℕ) → r ≡ total-answer.Refused x → (totalNumber k order table ≡ x) × (x ≡ 0 → ⊥)
+  unfolding numberOfTotal totalAnswer
+  total-refused-is x e = (number, apart)
+    where
+      number : totalNumber k order table ≡ x
+      number = sym (promise .number) ∙ ap numberOfTotal e
+
+      apart : x ≡ 0 → ⊥
+      apart z =
+          let a : r ≡ total-answer.Total (totalOf k order table) = promise .answer ∙ ap (λ n. totalAnswer n (totalOf k order table)) (number ∙ z) in
+          let q : _≡_ {A = ℕ} 0 1 = cc in
+          omega arith
+
+  -- a total is the order's
+  pub total-given-is : (x : ℕ) → r ≡ total-answer.Total x → (totalNumber k order table ≡ accepted) × (x ≡ totalOf k order table)
+  unfolding numberOfTotal valueOfTotal totalGiven
+  total-given-is x e =
+      let number : totalNumber k order table ≡ accepted = sym (promise .number) ∙ ap numberOfTotal e in
+      (number, sym (ap valueOfTotal e) ∙ promise .value ∙ value-good _ _ number)

@@ -9,3 +9,4 @@ pub mod Shift
 pub mod Calls
 pub mod Way
 pub mod RoundTrip
+pub mod Examples

@@ -4,11 +4,10 @@ use mathlib.Core.Bool.{Bool, true, false, cond}
 use mathlib.Core.List.{List, _++_}
 use Prim.Native.Nat.{ℕ, _^_, _≤_}
 use native.Mathlib.Omega.{arith}
-use lib.Dec.{leb}
 use lib.ListN.{length, take, drop, length-append}
 use lib.Seq.{take-at, length-take-le}
 use borrow.Author.Tests.{leb-true}
-use Rattle.base.specs.Refusal.{accepted, wrongK, wrongSize, wrongForks}
+use Rattle.base.specs.Refusal.{accepted, wrongForks}
 use Rattle.base.specs.Size.{maxK}
 use Rattle.records.specs.Field.{areBytes}
 use Rattle.records.proofs.FieldLaws.{length-bytesOf, areBytes-take}
@@ -22,24 +21,14 @@ use Rattle.orders.specs.declared.OrderMade.{OrderMade}
 use Rattle.orders.specs.declared.OrderMade.the-variants as order-answer
 use Rattle.orders.specs.Allowed.{judgeStops, forksOf}
 use Rattle.orders.specs.Bits.{byteCount, bitString, onlyForks, judgeForks}
-use Rattle.orders.specs.Call.{inSequence, orderIn, forksIn, orderFits, bitsFit, bitsNumber, bitsLeft, orderNumber, orderLeft}
+use Rattle.orders.specs.Call.{orderIn, forksIn, orderFits, bitsFit, bitsNumber, bitsLeft, orderNumber, orderLeft}
 use Rattle.orders.specs.Answer.{numberOfBits, numberOfOrder, bitsAnswer, orderAnswer, BitsPromise, OrderPromise}
 use Rattle.orders.proofs.Same.{both}
 use Rattle.orders.proofs.Allowed.{Gives, below-all, judge-good, judged-good, forksOf-gives, gives-allowed, forksOf-orderOf}
 use Rattle.orders.proofs.Bits.{only-forks, forks-only, judge-forks, set-of-string, string-of-set}
-use Rattle.orders.proofs.Calls.{written-good, bits-judged, judge-contents, order-contents}
+use Rattle.orders.proofs.Calls.{sequence-good, bits-left-good, order-left-good, written-good, bits-judged, judge-contents, order-contents}
 
 -- ---- what is known where a call accepts
-
--- k, the lengths and the contents
-sequence-good : (k : ℕ) (lengths : Bool) (contents : ℕ) → inSequence k lengths contents ≡ accepted → (k ≤ maxK) × (lengths ≡ true) × (contents ≡ accepted)
-unfolding inSequence
-sequence-good k lengths contents e = go (leb k maxK) refl lengths e
-  where
-    go : (t : Bool) → leb k maxK ≡ t → (l : Bool) → cond t (cond l contents wrongSize) wrongK ≡ accepted → (k ≤ maxK) × (l ≡ true) × (contents ≡ accepted)
-    go true f true q = (leb-true _ _ f, refl, q)
-    go true f false q = absurd (omega arith)
-    go false f l q = absurd (omega arith)
 
 -- an accepted order
 pub record GoodOrder (k : ℕ) (order bits : List ℕ) : Type 0 where
@@ -95,8 +84,8 @@ module _ (k : ℕ) (order bits : List ℕ) (accepts : bitsNumber k order bits �
 
   -- the string that is left
   left : bitsLeft k order bits ≡ bitString k (forksOf k o) ++ drop (byteCount (2 ^ k)) bits
-  unfolding bitsLeft o
-  left = written-good _ (bitString k (forksOf k o)) bits accepts ∙ rw length-bytesOf
+  unfolding o
+  left = bits-left-good k order bits accepts
 
   -- says the set that gives the order
   said : forksIn k (bitsLeft k order bits) ≡ forksOf k o
@@ -130,8 +119,8 @@ module _ (k : ℕ) (bits order : List ℕ) (bytes : areBytes bits ≡ true) (acc
 
   -- the order that is left
   left-order : orderLeft k bits order ≡ orderOf k F ++ drop (2 ^ k) order
-  unfolding orderLeft F
-  left-order = written-good _ (orderOf k F) order accepts ∙ rw length-orderOf
+  unfolding F
+  left-order = order-left-good k bits order accepts
 
   first-left : orderIn k (orderLeft k bits order) ≡ orderOf k F
   first-left = rw (left-order, take-at (orderOf k F) (drop (2 ^ k) order) (2 ^ k) (length-orderOf k F))

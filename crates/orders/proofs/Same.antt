@@ -1,10 +1,11 @@
 -- The test that two lists are the same says so.
-use mathlib.Core.Path.{_≡_, refl, sym, subst, ap₂}
+use mathlib.Core.Path.{_≡_, refl, sym, ap, ap₂, subst}
 use mathlib.Core.Bool.{Bool, true, false, false≢true, _&&_}
 use mathlib.Core.List.{List, [], _∷_}
 use Prim.Native.Nat.{ℕ, _+_, _≤_, _<_}
 use native.Mathlib.Omega.{arith}
 use lib.Dec.{eqb}
+use lib.ListN.{getD}
 use borrow.Author.Tests.{eqb-true, eqb-false, eq-eqb}
 use Rattle.orders.specs.Same.{alike}
 
@@ -46,3 +47,11 @@ more P p h here q a b = go (equal q p)
     go : Dec (q ≡ p) → P q
     go (yes e) = subst P (sym e) here
     go (no e) = h q a (omega arith)
+
+-- lists that differ at an index do not pass
+pub differ-alike : (o u : List ℕ) (i : ℕ) → (getD o i 0 ≡ getD u i 0 → ⊥) → alike o u ≡ false
+differ-alike o u i h = go (alike o u) refl
+  where
+    go : (t : Bool) → alike o u ≡ t → alike o u ≡ false
+    go true e = absurd (h (ap (λ l. getD l i 0) (alike-same o u e)))
+    go false e = e

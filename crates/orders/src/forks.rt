@@ -4,16 +4,9 @@ ghost use mathlib.Core.Path.{_≡_};
 ghost use mathlib.Core.List.{_++_};
 ghost use Prim.Native.Nat.{_≤_, _<_, _/_, _^_};
 ghost use lib.ListN.{length, take, drop, replicate};
-ghost use Rattle.base.specs.Size.{maxK, stopCount};
+ghost use Rattle.base.specs.Size.{maxK};
 ghost use Rattle.orders.specs.Allowed.{judgeStops, forksOf};
 ghost use Rattle.orders.specs.Bits.{byteCount, bitString, setOfBits, onlyForks, raised, marked};
-
-// ceil(n/8), the bytes of a fork string.
-pub fn byte_count(k: u16) -> usize
-    ensures { λ r. ⌜ r ≡ byteCount (stopCount k) ⌝ }
-{
-    (stop_count(k) + 7) / 8
-}
 
 // Sets bit v of a string.
 fn raise(bits: &mut [u8], v: usize)

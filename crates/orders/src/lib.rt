@@ -12,6 +12,8 @@ use base::WRONG_K;
 use base::WRONG_SIZE;
 use base::stop_count;
 ghost use mathlib.Core.Path.{_≡_};
+ghost use Rattle.base.specs.Size.{stopCount};
+ghost use Rattle.orders.specs.Bits.{byteCount};
 ghost use Rattle.orders.specs.Call.{judgeOrder};
 ghost use Rattle.orders.specs.Answer.{BitsPromise, OrderPromise, TotalPromise};
 
@@ -31,6 +33,13 @@ pub enum OrderMade {
 pub enum OrderTotal {
     Total(u64),
     Refused(u16),
+}
+
+// ceil(n/8), the bytes of a fork string.
+pub fn byte_count(k: u16) -> usize
+    ensures { λ r. ⌜ r ≡ byteCount (stopCount k) ⌝ }
+{
+    (stop_count(k) + 7) / 8
 }
 
 // 0 where the first n numbers are an allowed order, and otherwise the refusal's number.
@@ -53,7 +62,7 @@ pub fn fork_bits(k: u16, order: &[u16], bits: &mut [u8]) -> BitsMade
     if 10 < k {
         return BitsMade::Refused(WRONG_K);
     }
-    if bits.len() < forks::byte_count(k) {
+    if bits.len() < byte_count(k) {
         return BitsMade::Refused(WRONG_SIZE);
     }
     let refused = judge_order(k, order);
@@ -71,7 +80,7 @@ pub fn order_of_bits(k: u16, bits: &[u8], order: &mut [u16]) -> OrderMade
     if 10 < k {
         return OrderMade::Refused(WRONG_K);
     }
-    if bits.len() < forks::byte_count(k) {
+    if bits.len() < byte_count(k) {
         return OrderMade::Refused(WRONG_SIZE);
     }
     if order.len() < stop_count(k) {

@@ -1,9 +1,9 @@
--- `orders::forks::byte_count` meets its contract.
+-- `orders::byte_count` meets its contract.
 use native.Mathlib.Omega.{arith}
 use Rattle.orders.proofs.Size.{stopCount-le}
 use borrow.Author.Needs.{needs}
-use Rattle.orders.proofs.forks.byte_count.Statement.{statement}
-use Rattle.orders.proofs.forks.byte_count.Tie as tie
+use Rattle.orders.proofs.byte_count.Statement.{statement}
+use Rattle.orders.proofs.byte_count.Tie as tie
 
 stop-count-requires : tie.Need-stop-count-requires
 stop-count-requires c κs = search needs
