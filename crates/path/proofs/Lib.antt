@@ -2,9 +2,12 @@
 pub mod BodyLaws
 mod FillLaws
 pub mod HeadLaws
+pub mod Inverse
 pub mod OverLaws
 pub mod PlaceLaws
 pub mod ReadLaws
+pub mod RoundTrip
 pub mod StopLaws
 pub mod WriteLaws
 pub mod WrittenLaws
+pub mod StopRound
