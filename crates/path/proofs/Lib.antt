@@ -1,10 +1,12 @@
 -- Laws of paths.
 pub mod BodyLaws
+pub mod DrawLaws
 mod FillLaws
 pub mod HeadLaws
 pub mod Inverse
 pub mod OverLaws
 pub mod PlaceLaws
+pub mod Prefix
 pub mod ReadLaws
 pub mod RoundTrip
 pub mod StopLaws
