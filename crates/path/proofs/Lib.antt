@@ -4,12 +4,13 @@ pub mod DrawLaws
 mod FillLaws
 pub mod HeadLaws
 pub mod Inverse
+pub mod JudgeLaws
 pub mod OverLaws
 pub mod PlaceLaws
 pub mod Prefix
 pub mod ReadLaws
 pub mod RoundTrip
 pub mod StopLaws
+pub mod StopRound
 pub mod WriteLaws
 pub mod WrittenLaws
-pub mod StopRound
