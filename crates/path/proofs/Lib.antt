@@ -10,6 +10,7 @@ pub mod PlaceLaws
 pub mod Prefix
 pub mod ReadLaws
 pub mod RoundTrip
+pub mod StopFields
 pub mod StopLaws
 pub mod StopRound
 pub mod WriteLaws

@@ -27,6 +27,7 @@ use Rattle.path.proofs.HeadLaws.{fields-good}
 use Rattle.path.proofs.Inverse.{next-of, ended-of, accepted-of, opened-of}
 use Rattle.path.proofs.PlaceLaws.{size-length, size-range}
 use Rattle.path.proofs.ReadLaws.{path-body, body-path}
+use Rattle.path.proofs.StopFields.{explicit-stop, explicit-loss}
 use Rattle.path.proofs.StopRound.{stop-back, content-back, plain-back}
 use Rattle.path.proofs.WrittenLaws.{length-content, size-is}
 
@@ -163,8 +164,8 @@ write-read bytes highest lent version k ss b e =
 -- ---- what is known of stops that were read
 
 field-kept : (version : ℕ) (content : List ℕ) → losesField version (stopOf version content) ≡ false
-unfolding losesField stopOf
-field-kept version content = pick (leb 5 version)
+field-kept version content =
+    explicit-loss version (stopOf version content) ∙ rw (explicit-stop version content) (pick (leb 5 version))
   where
     pick : (b : Bool) → not (b || eqb (cond b (number (take 2 (drop 14 content))) 0) 0) ≡ false
     pick true = refl
@@ -218,9 +219,9 @@ accepted-size bytes highest lent version k ss e =
 
 -- from version 5 on every field of a stop is held
 pub any-new : (version : ℕ) (ss : List Stop) → 5 ≤ version → losesAny version ss ≡ false
-unfolding losesAny losesField
+unfolding losesAny
 any-new version [] h = refl
-any-new version (s ∷ ss) h = rw (le-leb 5 version h) (any-new version ss h)
+any-new version (s ∷ ss) h = rw (explicit-loss version s, le-leb 5 version h) (any-new version ss h)
 
 -- a path that was read, written in a version that holds its stops, means the same stops
 pub rewritten : (bytes : List ℕ) (highest : ℕ) (lent : ℕ → Bool) (version k : ℕ) (ss : List Stop) (to known-to : ℕ) → readPath bytes highest lent ≡ path version k ss → knownVersion known-to ≡ true → knownVersion to ≡ true → to ≤ known-to → losesAny to ss ≡ false → readPath (pathBytes to k ss) known-to lent ≡ path to k ss

@@ -10,8 +10,8 @@ use lib.IntN.{ℤ, pos, natAbs}
 use lib.ListN.{length, take, drop, getD, length-append, length-drop, take-append-drop, drop-of-length-le}
 use lib.Seq.{take-at, drop-at, drop-drop, take-all, length-take-le}
 use borrow.Author.Tests.{leb-true, leb-false, eqb-true, not-false}
-use Rattle.records.specs.Field.{number, bytesOf, areBytes, signed, unsigned}
-use Rattle.records.specs.Record.{recordLength}
+use Rattle.records.specs.Field.{number, bytesOf, areBytes, signed, unsigned, writeFields}
+use Rattle.records.specs.Record.{recordLength, stopFields}
 use Rattle.records.proofs.FieldLaws.{length-bytesOf, number-bytesOf, bytesOf-number, number-lt, signed-unsigned, unsigned-signed, unsigned-lt, areBytes-take, areBytes-drop}
 use Rattle.records.proofs.LengthLaws.{length-old, length-new, stop-length-4, stop-length-5}
 use Rattle.stop.specs.declared.Stop.{Stop}
@@ -19,8 +19,8 @@ use Rattle.stop.specs.Stop.{inRange, coordinate}
 use Rattle.stop.proofs.Limits.{good, Good}
 use Rattle.path.specs.Path.{stopOf}
 use Rattle.path.specs.Written.{pointBytes, paceBytes, stopContent, losesField}
+use Rattle.path.proofs.StopFields.{explicit-stop, explicit-content, explicit-pace, explicit-loss, pace-new}
 use Rattle.path.proofs.StopLaws.{same-stop}
-use Rattle.path.proofs.WrittenLaws.{pace-new}
 
 -- a field between what stands before it and after it
 field-at : (w o : ℕ) (s before field after : List ℕ) → s ≡ before ++ (field ++ after) → length before ≡ o → length field ≡ w → take w (drop o s) ≡ field
@@ -49,8 +49,8 @@ module _ (version : ℕ) (s : Stop) where
   pace = paceBytes version (s .speed) (s .blend)
 
   fields-are : stopContent version s ≡ field 0 ++ (field 1 ++ (field 2 ++ pace))
-  unfolding stopContent pointBytes field pace
-  fields-are = simp append-assoc
+  unfolding pointBytes field pace
+  fields-are = rw (explicit-content version s) (simp append-assoc)
 
   module _ (g : Good s) where
     back-x : coordinate s 0 ≡ signed (number (take 4 (stopContent version s)))
@@ -83,10 +83,13 @@ module _ (version : ℕ) (s : Stop) where
     unfolding front
     pace-after = fields-are ∙ simp append-assoc
 
+    speed-after : stopContent version s ≡ front ++ (bytesOf 2 (s .speed) ++ writeFields (drop 4 (stopFields version)) (s .blend ∷ []))
+    unfolding pace paceBytes writeFields stopFields
+    speed-after = pace-after
+
     back-speed : s .speed ≡ number (take 2 (drop 12 (stopContent version s)))
-    unfolding pace paceBytes
     back-speed =
-        sym (ap number (field-at 2 12 _ front (bytesOf 2 (s .speed)) (cond (leb 5 version) (bytesOf 2 (s .blend)) []) pace-after length-front (length-bytesOf 2 _))
+        sym (ap number (field-at 2 12 _ front (bytesOf 2 (s .speed)) (writeFields (drop 4 (stopFields version)) (s .blend ∷ [])) speed-after length-front (length-bytesOf 2 _))
         ∙ number-bytesOf 2 (s .speed) (omega (arith, g .fast)))
 
     pace-both : leb 5 version ≡ true → stopContent version s ≡ front ++ bytesOf 2 (s .speed) ++ (bytesOf 2 (s .blend) ++ [])
@@ -97,8 +100,7 @@ module _ (version : ℕ) (s : Stop) where
         ∙ simp (append-assoc, append-nil)
 
     back-blend : losesField version s ≡ false → s .blend ≡ cond (leb 5 version) (number (take 2 (drop 14 (stopContent version s)))) 0
-    unfolding losesField
-    back-blend kept = pick (leb 5 version) refl kept
+    back-blend kept = pick (leb 5 version) refl (sym (explicit-loss version s) ∙ kept)
       where
         pick : (b : Bool) → leb 5 version ≡ b → not (b || eqb (s .blend) 0) ≡ false → s .blend ≡ cond b (number (take 2 (drop 14 (stopContent version s)))) 0
         pick true e k =
@@ -139,8 +141,8 @@ module _ (c : List ℕ) (bytes : areBytes c ≡ true) where
 
   -- a content of the version's length is that of the stop it means
   pub content-back : (version : ℕ) → 2 + length c ≡ recordLength 2 version 0 → stopContent version (stopOf version c) ≡ c
-  unfolding stopContent pointBytes paceBytes stopOf
-  content-back version size = pick (leb 5 version) refl
+  unfolding pointBytes
+  content-back version size = rw (explicit-content version (stopOf version c), explicit-stop version c, explicit-pace) (pick (leb 5 version) refl)
     where
       pick : (b : Bool) → leb 5 version ≡ b → bytesOf 4 (unsigned (signed (number (take 4 c)))) ++ bytesOf 4 (unsigned (signed (number (take 4 (drop 4 c))))) ++ bytesOf 4 (unsigned (signed (number (take 4 (drop 8 c))))) ++ (bytesOf 2 (number (take 2 (drop 12 c))) ++ cond b (bytesOf 2 (cond b (number (take 2 (drop 14 c))) 0)) []) ≡ c
       pick true e =

@@ -15,7 +15,8 @@ judge-place-requires : tie.Need-judge-place-requires
 judge-place-requires c κs = search needs
 
 returns : tie.Need-returns
-returns c = let a = c .before .before .before .args in
+returns c =
+    let a = c .before .before .before .args in
     let r = c .before .judge-place .ensures in
     r ∙ sym (end-refused (a .version) (drop (stopPlace (a .version) (a .count)) (now (a .bytes))) (λ z. c .if1 .taken (r ∙ z)))
 
@@ -26,13 +27,15 @@ add-if2 : tie.Need-add-if2
 add-if2 c = search needs
 
 returns-2 : tie.Need-returns-2
-returns-2 c = let a = c .before .before .before .before .before .args in
+returns-2 c =
+    let a = c .before .before .before .before .before .args in
     let s = drop (stopPlace (a .version) (a .count)) (now (a .bytes)) in
     let size : length s ≡ length (now (a .bytes)) - stopPlace (a .version) (a .count) = length-drop (stopPlace (a .version) (a .count)) (now (a .bytes)) in
     sym (end-trailing (a .version) s (sym (c .before .before .before .judge-place .ensures) ∙ c .before .before .if1 .left) (omega (arith, c .before .stop-place .ensures)))
 
 returns-3 : tie.Need-returns-3
-returns-3 c = let a = c .before .before .before .before .before .args in
+returns-3 c =
+    let a = c .before .before .before .before .before .args in
     let s = drop (stopPlace (a .version) (a .count)) (now (a .bytes)) in
     let size : length s ≡ length (now (a .bytes)) - stopPlace (a .version) (a .count) = length-drop (stopPlace (a .version) (a .count)) (now (a .bytes)) in
     sym (ap bodyNumber (end-good (a .version) s (sym (c .before .before .before .judge-place .ensures) ∙ c .before .before .if1 .left) (omega (arith, c .before .stop-place .ensures))) ∙ number-stops [])

@@ -20,7 +20,8 @@ judge-record-requires : tie.Need-judge-record-requires
 judge-record-requires c κs = search needs
 
 returns : tie.Need-returns
-returns c = let a = c .before .before .before .before .args in
+returns c =
+    let a = c .before .before .before .before .args in
     let place : drop (c .before .before .stop-place .result) (now (a .bytes)) ≡ drop (stopPlace (a .version) (a .i)) (now (a .bytes)) =
     rw (c .before .before .stop-place .ensures) (drop-min (stopPlace (a .version) (a .i)) (8 + length (now (a .bytes))) (now (a .bytes)) (omega arith)) in
     c .judge-record .ensures ∙ rw (c .before .record-length .ensures, place)

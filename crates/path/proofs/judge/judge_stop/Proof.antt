@@ -18,7 +18,8 @@ judge-place-requires : tie.Need-judge-place-requires
 judge-place-requires c κs = search needs
 
 returns : tie.Need-returns
-returns c = let a = c .before .before .before .args in
+returns c =
+    let a = c .before .before .before .args in
     let s = drop (stopPlace (a .version) (a .i)) (now (a .bytes)) in
     let r = c .before .judge-place .ensures in
     r ∙ sym (number-of-refused (a .version) _ s (number-bad (takeRecord 2 (recordLength 2 (a .version) 0) s) (λ z. c .if1 .taken (r ∙ z))))
@@ -31,7 +32,8 @@ judge-requires c κs = search needs
 
 returns-2 : tie.Need-returns-2
 unfolding stopIn
-returns-2 c = let a = c .before .before .before .before .before .args in
+returns-2 c =
+    let a = c .before .before .before .before .before .args in
     let s = drop (stopPlace (a .version) (a .i)) (now (a .bytes)) in
     let good : takenNumber (takeRecord 2 (recordLength 2 (a .version) 0) s) ≡ 0 = sym (c .before .before .before .judge-place .ensures) ∙ c .before .before .if1 .left in
     let next : 4 + stopPlace (a .version) (a .i) ≡ stopPlace (a .version) (a .i) + 4 = omega arith in

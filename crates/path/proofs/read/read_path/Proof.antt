@@ -31,7 +31,8 @@ judge-head-requires : tie.Need-judge-head-requires
 judge-head-requires c κs = search needs
 
 returns : tie.Need-returns
-returns c = let a = c .before .before .before .before .before .args in
+returns c =
+    let a = c .before .before .before .before .before .args in
     parts (call-refused (now (a .bytes)) (a .highest) (now (a .coords)) (now (a .speeds)) (now (a .blends)) _ (judged-head (now (a .bytes)) (a .highest) (λ k. stopsFit (stopCount k) (now (a .coords)) (now (a .speeds)) (now (a .blends))) (c .before .judge-head .result) (c .before .judge-head .ensures) (c .if1 .taken)))
 
 stop-count-requires : tie.Need-stop-count-requires
@@ -41,14 +42,16 @@ stops-fit-requires : tie.Need-stops-fit-requires
 stops-fit-requires c κs = search needs
 
 returns-2 : tie.Need-returns-2
-returns-2 c = let a = c .before .before .before .before .before .before .before .before .args in
+returns-2 c =
+    let a = c .before .before .before .before .before .before .before .before .args in
     parts (call-refused (now (a .bytes)) (a .highest) (now (a .coords)) (now (a .speeds)) (now (a .blends)) _ (judged-lent (now (a .bytes)) (a .highest) (λ k. stopsFit (stopCount k) (now (a .coords)) (now (a .speeds)) (now (a .blends))) (c .before .before .before .before .judge-head .result) (c .before .before .before .before .judge-head .ensures) (c .before .before .before .if1 .left) (sym (fit (c .before)) ∙ not-true _ (c .if2 .taken))))
 
 judge-body-requires : tie.Need-judge-body-requires
 judge-body-requires c κs = search needs
 
 returns-3 : tie.Need-returns-3
-returns-3 c = let a = c .before .before .before .before .before .before .before .before .before .before .args in
+returns-3 c =
+    let a = c .before .before .before .before .before .before .before .before .before .before .args in
     parts (call-refused (now (a .bytes)) (a .highest) (now (a .coords)) (now (a .speeds)) (now (a .blends)) _ (judged-body (now (a .bytes)) (a .highest) (λ k. stopsFit (stopCount k) (now (a .coords)) (now (a .speeds)) (now (a .blends))) (c .before .before .before .before .before .before .judge-head .result) (c .before .before .before .before .before .before .judge-head .ensures) (c .before .before .before .before .before .if1 .left) (sym (fit (c .before .before .before)) ∙ not-false _ (c .before .before .if2 .left)) (c .before .judge-body .result) (c .before .judge-body .ensures) (c .if3 .taken)))
 
 fill-path-requires : tie.Need-fill-path-requires
@@ -64,7 +67,8 @@ same-length-3 : tie.Need-same-length-3
 same-length-3 c = search needs
 
 returns-4 : tie.Need-returns-4
-returns-4 c = let a = c .before .before .before .before .before .before .before .before .before .before .before .before .before .before .before .before .before .before .before .args in
+returns-4 c =
+    let a = c .before .before .before .before .before .before .before .before .before .before .before .before .before .before .before .before .before .before .before .args in
     let fits : stopsFit (stopCount (c .before .before .before .before .before .before .before .before .before .before .before .before .before .before .before .judge-head .result .k)) (now (a .coords)) (now (a .speeds)) (now (a .blends)) ≡ true = sym (fit (c .before .before .before .before .before .before .before .before .before .before .before .before)) ∙ not-false _ (c .before .before .before .before .before .before .before .before .before .before .before .if2 .left) in
     let read = judged-path (now (a .bytes)) (a .highest) (λ k. stopsFit (stopCount k) (now (a .coords)) (now (a .speeds)) (now (a .blends))) (c .before .before .before .before .before .before .before .before .before .before .before .before .before .before .before .judge-head .result) (c .before .before .before .before .before .before .before .before .before .before .before .before .before .before .before .judge-head .ensures) (c .before .before .before .before .before .before .before .before .before .before .before .before .before .before .if1 .left) fits (c .before .before .before .before .before .before .before .before .before .before .judge-body .result) (c .before .before .before .before .before .before .before .before .before .before .judge-body .ensures) (c .before .before .before .before .before .before .before .before .before .if3 .left) in
     let p = parts (call-read (now (a .bytes)) (a .highest) (now (a .coords)) (now (a .speeds)) (now (a .blends)) _ _ _ read) in
