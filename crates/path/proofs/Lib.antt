@@ -1,10 +1,17 @@
 -- Laws of paths.
 pub mod BodyLaws
+pub mod DrawLaws
 mod FillLaws
 pub mod HeadLaws
+pub mod Inverse
+pub mod JudgeLaws
 pub mod OverLaws
 pub mod PlaceLaws
+pub mod Prefix
 pub mod ReadLaws
+pub mod RoundTrip
+pub mod StopFields
 pub mod StopLaws
+pub mod StopRound
 pub mod WriteLaws
 pub mod WrittenLaws

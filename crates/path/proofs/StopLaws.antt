@@ -1,5 +1,5 @@
 -- Laws of one stop's record: what its content means does not depend on what follows it.
-use mathlib.Core.Path.{_≡_, refl}
+use mathlib.Core.Path.{_≡_, sym, refl}
 use mathlib.Core.Bool.{Bool, true, false, cond}
 use mathlib.Core.List.{List, [], _∷_}
 use Prim.Native.Nat.{ℕ, _+_, _-_}
@@ -18,23 +18,21 @@ use Rattle.stop.specs.declared.Stop.{Stop}
 use Rattle.stop.specs.Stop.{inRange, judgeStop}
 use Rattle.stop.proofs.Limits.{judged-good, judged-bad}
 use Rattle.path.specs.Path.{stopOf, stopNumber, stopVerdict, stopThen, andStop, noBody, BodyRead, stopSize}
+use Rattle.path.proofs.StopFields.{explicit-stop}
 use Rattle.path.proofs.PlaceLaws.{window, size-length}
 
 -- the stop of fields that are those of the content
 pub same-stop : (version : ℕ) (s : List ℕ) {x y z : ℤ} {v b : ℕ} → x ≡ signed (number (take 4 s)) → y ≡ signed (number (take 4 (drop 4 s))) → z ≡ signed (number (take 4 (drop 8 s))) → v ≡ number (take 2 (drop 12 s)) → b ≡ cond (leb 5 version) (number (take 2 (drop 14 s))) 0 → _≡_ {A = Stop} (record { at = x ∷ y ∷ z ∷ []; speed = v; blend = b }) (stopOf version s)
-unfolding stopOf
-same-stop version s ex ey ez ev eb = rw (ex, ey, ez, ev, eb)
+same-stop version s ex ey ez ev eb = rw (ex, ey, ez, ev, eb) (sym (explicit-stop version s))
 
 -- the fields at their places, with those of the content alone
 content-long : (version : ℕ) (s : List ℕ) → leb 5 version ≡ true → stopOf version (take 16 s) ≡ stopOf version s
-unfolding stopOf
 content-long version s e =
-    rw (e, take-take 4 16 s (omega arith), window 4 4 16 s (omega arith), window 4 8 16 s (omega arith), window 2 12 16 s (omega arith), window 2 14 16 s (omega arith))
+    rw (explicit-stop version (take 16 s), explicit-stop version s, e, take-take 4 16 s (omega arith), window 4 4 16 s (omega arith), window 4 8 16 s (omega arith), window 2 12 16 s (omega arith), window 2 14 16 s (omega arith))
 
 content-short : (version : ℕ) (s : List ℕ) → leb 5 version ≡ false → stopOf version (take 14 s) ≡ stopOf version s
-unfolding stopOf
 content-short version s e =
-    rw (e, take-take 4 14 s (omega arith), window 4 4 14 s (omega arith), window 4 8 14 s (omega arith), window 2 12 14 s (omega arith))
+    rw (explicit-stop version (take 14 s), explicit-stop version s, e, take-take 4 14 s (omega arith), window 4 4 14 s (omega arith), window 4 8 14 s (omega arith), window 2 12 14 s (omega arith))
 
 -- the content alone means the same stop as the bytes that it begins
 pub content-stop : (version : ℕ) (s : List ℕ) → stopOf version (take (recordLength 2 version 0 - 2) s) ≡ stopOf version s

@@ -2,14 +2,14 @@
 use mathlib.Core.Path.{_≡_, refl, sym, _∙_}
 use mathlib.Core.Bool.{Bool, true, false, cond}
 use mathlib.Core.List.{List, [], _∷_, _++_, append-assoc, append-nil}
-use Prim.Native.Nat.{ℕ, _+_, _*_, _^_, _≤_, _<_}
+use Prim.Native.Nat.{ℕ, _+_, _*_, _^_, _≤_}
 use native.Mathlib.Nat.{zero-mul, suc-mul, mul-le-mul-right}
 use native.Mathlib.Omega.{arith}
 use lib.Dec.{leb}
 use lib.IntN.{ℤ}
 use lib.Pow.{pow-mono}
 use lib.ListN.{length, length-append}
-use borrow.Author.Tests.{leb-true, leb-false, le-leb, lt-leb}
+use borrow.Author.Tests.{leb-true, leb-false}
 use Rattle.base.specs.Size.{stopCount}
 use Rattle.records.specs.Field.{bytesOf}
 use Rattle.records.specs.Put.{put}
@@ -24,6 +24,7 @@ use Rattle.stop.proofs.Lent.{length-lent}
 use Rattle.path.specs.Over.{over}
 use Rattle.path.specs.Path.{stopSize, pathSize}
 use Rattle.path.specs.Written.{pointBytes, paceBytes, stopContent, stopBytes, stopsBytes, headBytes, pathBytes}
+use Rattle.path.proofs.StopFields.{explicit-content, pace-old, pace-new}
 use Rattle.path.proofs.PlaceLaws.{size-old, size-new, size-length, size-range}
 
 -- ---- lengths
@@ -31,14 +32,6 @@ use Rattle.path.proofs.PlaceLaws.{size-old, size-new, size-length, size
 pub length-point : (point : List ℤ) → length (pointBytes point) ≡ 12
 unfolding pointBytes
 length-point point = rw (length-append, length-append, length-bytesOf, length-bytesOf, length-bytesOf)
-
-pub pace-old : (version speed blend : ℕ) → version < 5 → paceBytes version speed blend ≡ bytesOf 2 speed
-unfolding paceBytes
-pace-old version speed blend h = rw (lt-leb _ _ h, append-nil)
-
-pub pace-new : (version speed blend : ℕ) → 5 ≤ version → paceBytes version speed blend ≡ bytesOf 2 speed ++ bytesOf 2 blend
-unfolding paceBytes
-pace-new version speed blend h = rw (le-leb _ _ h)
 
 pub length-pace : (version speed blend : ℕ) → 16 + length (paceBytes version speed blend) ≡ stopSize version
 length-pace version speed blend = pick (leb 5 version) refl
@@ -49,12 +42,11 @@ length-pace version speed blend = pick (leb 5 version) refl
     pick false e = rw (pace-old version speed blend (leb-false _ _ e), size-old version (leb-false _ _ e), length-bytesOf)
 
 pub length-content : (version : ℕ) (s : Stop) → 2 + length (stopContent version s) ≡ recordLength 2 version 0
-unfolding stopContent
 length-content version s =
     let p : length (pointBytes (s .at)) ≡ 12 = length-point (s .at) in
     let q : 16 + length (paceBytes version (s .speed) (s .blend)) ≡ stopSize version = length-pace version (s .speed) (s .blend) in
     let z : stopSize version ≡ 2 + recordLength 2 version 0 = size-length version in
-    rw length-append (omega arith)
+    rw (explicit-content version s, length-append) (omega arith)
 
 pub length-stopBytes : (version : ℕ) (s : Stop) → length (stopBytes version s) ≡ stopSize version
 unfolding stopBytes
@@ -109,8 +101,7 @@ unfolding recordBytes
 end-parts = rw (append-nil, end-length)
 
 content-parts : (version : ℕ) (s : Stop) (a : List ℕ) → a ++ stopContent version s ≡ a ++ pointBytes (s .at) ++ paceBytes version (s .speed) (s .blend)
-unfolding stopContent
-content-parts version s a = sym (append-assoc a (pointBytes (s .at)) (paceBytes version (s .speed) (s .blend)))
+content-parts version s a = rw (explicit-content version s) (sym (append-assoc a (pointBytes (s .at)) (paceBytes version (s .speed) (s .blend))))
 
 pub stop-parts : (version : ℕ) (s : Stop) → stopBytes version s ≡ bytesOf 2 (recordLength 2 version 0) ++ bytesOf 2 2 ++ pointBytes (s .at) ++ paceBytes version (s .speed) (s .blend)
 unfolding stopBytes recordBytes

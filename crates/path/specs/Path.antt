@@ -3,26 +3,31 @@ use mathlib.Core.Bool.{Bool, cond, _&&_, _||_}
 use mathlib.Core.List.{List, [], _∷_}
 use Prim.Native.Nat.{ℕ, zero, suc, _+_, _*_}
 use lib.Dec.{leb, eqb}
-use lib.ListN.{length, take, drop}
+use lib.ListN.{length, take, drop, getD}
 use Rattle.base.specs.Refusal.{accepted, wrongVersion, wrongK, outOfRange, trailingBytes, wrongSize}
 use Rattle.base.specs.Size.{maxK, stopCount}
-use Rattle.records.specs.Field.{number, signed}
-use Rattle.records.specs.Record.{Taken, taken, refused, takeRecord, recordLength, pathKind, stopKind, endKind}
+use Rattle.records.specs.Field.{number, signed, unsigned, readFields}
+use Rattle.records.specs.Record.{Taken, taken, refused, takeRecord, recordLength, stopFields, pathKind, stopKind, endKind}
 use Rattle.stop.specs.declared.Stop.{Stop}
-use Rattle.stop.specs.Stop.{inRange, judgeStop}
+use Rattle.stop.specs.Stop.{inRange, judgeStop, coordinate}
 
 -- 'version not 4 or 5'
 unfoldable pub knownVersion : ℕ → Bool
 knownVersion version = eqb version 4 || eqb version 5
 
--- the stop that a record's content means: x, y, z, speed; 'in version 5 also blend'; 'Version 4 reads as blend 0'
+-- a stop's fields as numbers, in the order of its record: x, y, z in two's complement, speed, blend
+unfoldable pub stopValues : Stop → List ℕ
+stopValues s =
+    unsigned (coordinate s 0) ∷ unsigned (coordinate s 1) ∷ unsigned (coordinate s 2) ∷ s .speed ∷ s .blend ∷ []
+
+-- the stop of such numbers; one that is not there counts as 0
+unfoldable pub stopOfValues : List ℕ → Stop
+stopOfValues vs =
+    record { at = signed (getD vs 0 0) ∷ signed (getD vs 1 0) ∷ signed (getD vs 2 0) ∷ []; speed = getD vs 3 0; blend = getD vs 4 0 }
+
+-- the stop that a record's content means: the fields of the version; 'Version 4 reads as blend 0'
 unfoldable pub stopOf : (version : ℕ) (content : List ℕ) → Stop
-stopOf version content =
-    record {
-      at = signed (number (take 4 content)) ∷ signed (number (take 4 (drop 4 content))) ∷ signed (number (take 4 (drop 8 content))) ∷ [];
-      speed = number (take 2 (drop 12 content));
-      blend = cond (leb 5 version) (number (take 2 (drop 14 content))) 0;
-    }
+stopOf version content = stopOfValues (readFields (stopFields version) content)
 
 -- ---- the head
 

@@ -16,6 +16,7 @@ ghost use mathlib.Core.Path.{_≡_};
 ghost use Prim.Native.Nat.{_+_, _*_, min};
 ghost use lib.ListN.{length, drop};
 ghost use Rattle.base.specs.Size.{stopCount};
+ghost use Rattle.records.specs.Record.{recordLength, takeRecord, takenNumber};
 ghost use Rattle.path.specs.Path.{knownVersion, noHead, readHead, readBody, bodyNumber, stopNumber, stopPlace, stopSize, stopIn, stopOf};
 ghost use Rattle.path.specs.Reading.{headAnswer};
 
@@ -116,12 +117,19 @@ pub fn stop_from(bytes: &[u8], version: u16, i: usize) -> Stop
     stop_of(bytes, version, 4 + stop_place(bytes, version, i))
 }
 
+// 0, or the refusal of a record of a kind at the place of stop i.
+fn judge_place(bytes: &[u8], version: u16, i: usize, kind: u16) -> u16
+    ensures { λ r. ⌜ r ≡ takenNumber (takeRecord kind (recordLength kind version 0) (drop (stopPlace version i) (now (bytes .entry)))) ⌝ }
+{
+    let at = stop_place(bytes, version, i);
+    judge_record(bytes, at, kind, record_length(kind, version))
+}
+
 // 0, or the refusal of the record of stop i.
 pub fn judge_stop(bytes: &[u8], version: u16, i: usize) -> u16
     ensures { λ r. ⌜ r ≡ stopNumber version (drop (stopPlace version i) (now (bytes .entry))) ⌝ }
 {
-    let at = stop_place(bytes, version, i);
-    let refused = judge_record(bytes, at, STOP, record_length(STOP, version));
+    let refused = judge_place(bytes, version, i, STOP);
     if refused != 0 {
         return refused;
     }
@@ -132,12 +140,11 @@ pub fn judge_stop(bytes: &[u8], version: u16, i: usize) -> u16
 pub fn judge_end(bytes: &[u8], version: u16, count: usize) -> u16
     ensures { λ r. ⌜ r ≡ bodyNumber (readBody version 0 (drop (stopPlace version count) (now (bytes .entry)))) ⌝ }
 {
-    let at = stop_place(bytes, version, count);
-    let refused = judge_record(bytes, at, END, record_length(END, version));
+    let refused = judge_place(bytes, version, count, END);
     if refused != 0 {
         return refused;
     }
-    if at + 4 < bytes.len() {
+    if stop_place(bytes, version, count) + 4 < bytes.len() {
         return TRAILING_BYTES;
     }
     0

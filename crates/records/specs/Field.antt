@@ -1,8 +1,9 @@
 -- Fields: 'All fields are little-endian; coordinates are two's complement.'
 use mathlib.Core.Bool.{Bool, true, cond, _&&_}
-use mathlib.Core.List.{List, [], _∷_}
+use mathlib.Core.List.{List, [], _∷_, _++_}
 use Prim.Native.Nat.{ℕ, zero, suc, _+_, _-_, _*_, _/_, _%_, _^_}
 use lib.Dec.{ltb}
+use lib.ListN.{take, drop}
 use lib.IntN.{ℤ, pos, negsuc}
 
 -- the number that bytes spell, least byte first
@@ -14,6 +15,17 @@ number (b ∷ s) = b + 256 * number s
 unfoldable pub bytesOf : (width value : ℕ) → List ℕ
 bytesOf zero x = []
 bytesOf (suc w) x = x % 256 ∷ bytesOf w (x / 256)
+
+-- the numbers of fields that stand one after the other, by their widths
+unfoldable pub readFields : (widths s : List ℕ) → List ℕ
+readFields [] s = []
+readFields (w ∷ ws) s = number (take w s) ∷ readFields ws (drop w s)
+
+-- the bytes of fields one after the other, by their widths: a number that is not there counts as 0, and one too many is left out
+unfoldable pub writeFields : (widths values : List ℕ) → List ℕ
+writeFields [] vs = []
+writeFields (w ∷ ws) [] = bytesOf w 0 ++ writeFields ws []
+writeFields (w ∷ ws) (v ∷ vs) = bytesOf w v ++ writeFields ws vs
 
 -- every number of the list is a byte
 unfoldable pub areBytes : List ℕ → Bool

@@ -42,7 +42,8 @@ loop-less : tie.Need-loop-less Inv-loop μ-loop
 loop-less c = search needs
 
 loop-again : tie.Need-loop-again Inv-loop μ-loop
-loop-again c = let a = c .before .before .before .before .before .before .before .before .before .before .before .before .before .before .before .args in
+loop-again c =
+    let a = c .before .before .before .before .before .before .before .before .before .before .before .before .before .before .before .args in
     let i = c .before .before .before .before .before .before .before .before .before .before .before .loop .i in
     let f : ℕ → Stop = λ (j : ℕ). stopIn (a .version) j (now (a .bytes)) in
     let from : c .before .before .before .before .before .before .stop-from .result ≡ f i = c .before .before .before .before .before .before .stop-from .ensures in
@@ -68,7 +69,8 @@ same-length-3 : tie.Need-same-length-3 Inv-loop μ-loop
 same-length-3 c = search needs
 
 returns : tie.Need-returns Inv-loop μ-loop
-returns c = let i = c .before .loop .i in
+returns c =
+    let i = c .before .loop .i in
     let done : i ≡ c .before .before .before .before .before .args .count = omega arith in
     let inv = c .before .loop .inv in
     ((rw done at (inv .1)), ((rw done at (inv .2)), (rw done at (inv .3))))

@@ -29,7 +29,8 @@ judge-stop-requires : tie.Need-judge-stop-requires Inv-loop μ-loop
 judge-stop-requires c κs = search needs
 
 returns : tie.Need-returns Inv-loop μ-loop
-returns c = let a = c .before .before .before .before .before .before .args in
+returns c =
+    let a = c .before .before .before .before .before .before .args in
     let i = c .before .before .before .loop .i in
     let count = c .before .before .before .before .stop-count .result in
     let more : count - i ≡ suc (count - (i + 1)) = omega arith in
@@ -45,7 +46,8 @@ loop-less : tie.Need-loop-less Inv-loop μ-loop
 loop-less c = search needs
 
 loop-again : tie.Need-loop-again Inv-loop μ-loop
-loop-again c = let a = c .before .before .before .before .before .before .args in
+loop-again c =
+    let a = c .before .before .before .before .before .before .args in
     let i = c .before .before .before .loop .i in
     let count = c .before .before .before .before .stop-count .result in
     let more : count - i ≡ suc (count - (i + 1)) = omega arith in (
@@ -59,7 +61,8 @@ judge-end-requires : tie.Need-judge-end-requires Inv-loop μ-loop
 judge-end-requires c κs = search needs
 
 returns-2 : tie.Need-returns-2 Inv-loop μ-loop
-returns-2 c = let a = c .before .before .before .before .before .args in
+returns-2 c =
+    let a = c .before .before .before .before .before .args in
     let i = c .before .before .loop .i in
     let count = c .before .before .before .stop-count .result in
     let done : i ≡ count = omega arith in

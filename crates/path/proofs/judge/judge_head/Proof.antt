@@ -40,7 +40,8 @@ no-head-requires-2 : tie.Need-no-head-requires-2
 no-head-requires-2 c κs = search needs
 
 returns-2 : tie.Need-returns-2
-returns-2 c = let a = c .before .before .before .before .before .before .before .args in
+returns-2 c =
+    let a = c .before .before .before .before .before .before .before .args in
     let r : c .before .before .judge-record .result ≡ takenNumber (takeRecord 1 (recordLength 1 (a .highest) 0) (now (a .bytes))) =
     c .before .before .judge-record .ensures ∙ rw (c .before .before .before .record-length .ensures) in
     c .no-head2 .ensures
@@ -61,7 +62,8 @@ no-head-requires-3 : tie.Need-no-head-requires-3
 no-head-requires-3 c κs = search needs
 
 returns-3 : tie.Need-returns-3
-returns-3 c = let a = c .before .before .before .before .before .before .before .before .before .before .before .args in
+returns-3 c =
+    let a = c .before .before .before .before .before .before .before .before .before .before .before .args in
     let v : c .before .before .before .before .field16 .result ≡ number (take 2 (drop 4 (now (a .bytes)))) = c .before .before .before .before .field16 .ensures in
     let n : c .before .before .before .field162 .result ≡ number (take 2 (drop 6 (now (a .bytes)))) = c .before .before .before .field162 .ensures in
     rw (fields (c .before .before .before .before .before), ← v, ← n) (c .no-head3 .ensures ∙ ap headAnswer (sym (fields-unknown (a .highest) (c .before .before .before .before .field16 .result) (c .before .before .before .field162 .result) (drop 8 (now (a .bytes))) (sym (c .before .before .known-version2 .ensures) ∙ not-true _ (c .before .if3 .taken)))))
@@ -70,7 +72,8 @@ no-head-requires-4 : tie.Need-no-head-requires-4
 no-head-requires-4 c κs = search needs
 
 returns-4 : tie.Need-returns-4
-returns-4 c = let a = c .before .before .before .before .before .before .before .before .before .before .before .before .args in
+returns-4 c =
+    let a = c .before .before .before .before .before .before .before .before .before .before .before .before .args in
     let v : c .before .before .before .before .before .field16 .result ≡ number (take 2 (drop 4 (now (a .bytes)))) = c .before .before .before .before .before .field16 .ensures in
     let n : c .before .before .before .before .field162 .result ≡ number (take 2 (drop 6 (now (a .bytes)))) = c .before .before .before .before .field162 .ensures in
     rw (fields (c .before .before .before .before .before .before), ← v, ← n) (c .no-head4 .ensures ∙ ap headAnswer (sym (fields-above (a .highest) (c .before .before .before .before .before .field16 .result) (c .before .before .before .before .field162 .result) (drop 8 (now (a .bytes))) (sym (c .before .before .before .known-version2 .ensures) ∙ not-false _ (c .before .before .if3 .left)) (c .before .if4 .taken))))
@@ -79,14 +82,16 @@ no-head-requires-5 : tie.Need-no-head-requires-5
 no-head-requires-5 c κs = search needs
 
 returns-5 : tie.Need-returns-5
-returns-5 c = let a = c .before .before .before .before .before .before .before .before .before .before .before .before .before .args in
+returns-5 c =
+    let a = c .before .before .before .before .before .before .before .before .before .before .before .before .before .args in
     let v : c .before .before .before .before .before .before .field16 .result ≡ number (take 2 (drop 4 (now (a .bytes)))) = c .before .before .before .before .before .before .field16 .ensures in
     let n : c .before .before .before .before .before .field162 .result ≡ number (take 2 (drop 6 (now (a .bytes)))) = c .before .before .before .before .before .field162 .ensures in
     rw (fields (c .before .before .before .before .before .before .before), ← v, ← n) (c .no-head5 .ensures ∙ ap headAnswer (sym (fields-large (a .highest) (c .before .before .before .before .before .before .field16 .result) (c .before .before .before .before .before .field162 .result) (drop 8 (now (a .bytes))) (sym (c .before .before .before .before .known-version2 .ensures) ∙ not-false _ (c .before .before .before .if3 .left)) (c .before .before .if4 .left) (c .before .if5 .taken))))
 
 returns-6 : tie.Need-returns-6
 unfolding headAnswer
-returns-6 c = let a = c .before .before .before .before .before .before .before .before .before .before .before .before .args in
+returns-6 c =
+    let a = c .before .before .before .before .before .before .before .before .before .before .before .before .args in
     let v : c .before .before .before .before .before .field16 .result ≡ number (take 2 (drop 4 (now (a .bytes)))) = c .before .before .before .before .before .field16 .ensures in
     let n : c .before .before .before .before .field162 .result ≡ number (take 2 (drop 6 (now (a .bytes)))) = c .before .before .before .before .field162 .ensures in
     rw (fields (c .before .before .before .before .before .before), ← v, ← n) (ap headAnswer (sym (fields-good (a .highest) (c .before .before .before .before .before .field16 .result) (c .before .before .before .before .field162 .result) (drop 8 (now (a .bytes))) (sym (c .before .before .before .known-version2 .ensures) ∙ not-false _ (c .before .before .if3 .left)) (c .before .if4 .left) (c .if5 .left))))

@@ -3,11 +3,10 @@ use mathlib.Core.Path.{_≡_, sym, ap, _∙_}
 use Prim.Native.Nat.{_+_}
 use native.Mathlib.Omega.{arith}
 use denote.Ref.{now}
-use lib.ListN.{length, drop}
+use lib.ListN.{drop}
 use Rattle.path.specs.Path.{stopPlace, stopIn, stopOf}
 use Rattle.records.specs.Record.{recordLength, takeRecord, takenNumber, taken}
 use Rattle.records.proofs.RecordLaws.{number-bad, number-good}
-use Rattle.path.proofs.PlaceLaws.{drop-min}
 use Rattle.path.proofs.StopLaws.{number-of-refused, number-of-taken, content-stop}
 use lib.Seq.{drop-drop}
 use Rattle.stop.specs.Stop.{judgeStop}
@@ -15,28 +14,14 @@ use borrow.Author.Needs.{needs}
 use Rattle.path.proofs.judge.judge_stop.Statement.{statement}
 use Rattle.path.proofs.judge.judge_stop.Tie as tie
 
--- what the judged record is: the one at the stop's place
-judged : (c : tie.After-judge-record) →
-    c .judge-record .result ≡ takenNumber (takeRecord 2 (recordLength 2 (c .before .before .before .before .args .version) 0) (drop (stopPlace (c .before .before .before .before .args .version) (c .before .before .before .before .args .i)) (now (c .before .before .before .before .args .bytes))))
-judged c =
-    let a = c .before .before .before .before .args in
-    let place : drop (c .before .before .stop-place .result) (now (a .bytes)) ≡ drop (stopPlace (a .version) (a .i)) (now (a .bytes)) =
-    rw (c .before .before .stop-place .ensures) (drop-min (stopPlace (a .version) (a .i)) (8 + length (now (a .bytes))) (now (a .bytes)) (omega arith)) in
-    c .judge-record .ensures ∙ rw (c .before .record-length .ensures, place)
-
-stop-place-requires : tie.Need-stop-place-requires
-stop-place-requires c κs = search needs
-
-record-length-requires : tie.Need-record-length-requires
-record-length-requires c κs = search needs
-
-judge-record-requires : tie.Need-judge-record-requires
-judge-record-requires c κs = search needs
+judge-place-requires : tie.Need-judge-place-requires
+judge-place-requires c κs = search needs
 
 returns : tie.Need-returns
-returns c = let a = c .before .before .before .before .before .args in
+returns c =
+    let a = c .before .before .before .args in
     let s = drop (stopPlace (a .version) (a .i)) (now (a .bytes)) in
-    let r = judged (c .before) in
+    let r = c .before .judge-place .ensures in
     r ∙ sym (number-of-refused (a .version) _ s (number-bad (takeRecord 2 (recordLength 2 (a .version) 0) s) (λ z. c .if1 .taken (r ∙ z))))
 
 stop-from-requires : tie.Need-stop-from-requires
@@ -47,9 +32,10 @@ judge-requires c κs = search needs
 
 returns-2 : tie.Need-returns-2
 unfolding stopIn
-returns-2 c = let a = c .before .before .before .before .before .before .before .args in
+returns-2 c =
+    let a = c .before .before .before .before .before .args in
     let s = drop (stopPlace (a .version) (a .i)) (now (a .bytes)) in
-    let good : takenNumber (takeRecord 2 (recordLength 2 (a .version) 0) s) ≡ 0 = sym (judged (c .before .before .before)) ∙ c .before .before .if1 .left in
+    let good : takenNumber (takeRecord 2 (recordLength 2 (a .version) 0) s) ≡ 0 = sym (c .before .before .before .judge-place .ensures) ∙ c .before .before .if1 .left in
     let next : 4 + stopPlace (a .version) (a .i) ≡ stopPlace (a .version) (a .i) + 4 = omega arith in
     c .judge .ensures
     ∙ ap judgeStop (c .before .stop-from .ensures ∙ ap (stopOf (a .version)) (rw next (sym (drop-drop 4 (stopPlace (a .version) (a .i)) (now (a .bytes))))))
@@ -57,12 +43,4 @@ returns-2 c = let a = c .before .before .before .before .before .before .before 
 
 pub judge-stop-spec : {M : Type 1} → statement M
 judge-stop-spec =
-    tie.close
-    (tie.spec
-    stop-place-requires
-    record-length-requires
-    judge-record-requires
-    returns
-    stop-from-requires
-    judge-requires
-    returns-2)
+    tie.close (tie.spec judge-place-requires returns stop-from-requires judge-requires returns-2)

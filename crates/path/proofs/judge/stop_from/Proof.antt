@@ -21,7 +21,8 @@ stop-of-requires c κs = search needs
 
 returns : tie.Need-returns
 unfolding stopIn
-returns c = let a = c .before .before .before .args in
+returns c =
+    let a = c .before .before .before .args in
     c .stop-of .ensures
     ∙ ap (stopOf (a .version))
     (rw (c .before .stop-place .ensures) (drop-min-add 4 (stopPlace (a .version) (a .i)) (8 + length (now (a .bytes))) (now (a .bytes)) (omega arith)))

@@ -21,7 +21,8 @@ add-result : tie.Need-add-result
 add-result c = search needs
 
 returns : tie.Need-returns
-returns c = let a = c .before .before .before .args in
+returns c =
+    let a = c .before .before .before .args in
     let size = c .before .stop-size .result in
     let some : 0 < size = omega (arith, size-range (a .version), c .before .stop-size .ensures) in
     let past : length (now (a .bytes)) < a .i * size = div-lt-iff-lt-mul some .0 (c .if1 .taken) in
@@ -29,21 +30,24 @@ returns c = let a = c .before .before .before .args in
     omega arith
 
 mul-result : tie.Need-mul-result
-mul-result c = let a = c .before .before .before .args in
+mul-result c =
+    let a = c .before .before .before .args in
     let size = c .before .stop-size .result in
     let some : 0 < size = omega (arith, size-range (a .version), c .before .stop-size .ensures) in
     let inside : a .i * size ≤ length (now (a .bytes)) = le-div-iff-mul-le some .0 (c .if1 .left) in
     omega arith
 
 add-result-2 : tie.Need-add-result-2
-add-result-2 c = let a = c .before .before .before .args in
+add-result-2 c =
+    let a = c .before .before .before .args in
     let size = c .before .stop-size .result in
     let some : 0 < size = omega (arith, size-range (a .version), c .before .stop-size .ensures) in
     let inside : a .i * size ≤ length (now (a .bytes)) = le-div-iff-mul-le some .0 (c .if1 .left) in
     omega arith
 
 returns-2 : tie.Need-returns-2
-returns-2 c = let a = c .before .before .before .args in
+returns-2 c =
+    let a = c .before .before .before .args in
     let size = c .before .stop-size .result in
     let some : 0 < size = omega (arith, size-range (a .version), c .before .stop-size .ensures) in
     let inside : a .i * size ≤ length (now (a .bytes)) = le-div-iff-mul-le some .0 (c .if1 .left) in

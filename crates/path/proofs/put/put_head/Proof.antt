@@ -26,7 +26,8 @@ same-length : tie.Need-same-length
 same-length c = search needs
 
 returns-2 : tie.Need-returns-2
-returns-2 c = let a = c .before .before .before .before .before .before .before .before .before .before .args in
+returns-2 c =
+    let a = c .before .before .before .before .before .before .before .before .before .before .args in
     rw head-parts
     (put-two (now (a .out)) 0 (bytesOf 2 (recordLength 1 (a .version) 0) ++ bytesOf 2 1) (bytesOf 2 (a .version) ++ bytesOf 2 (a .k)) _ _ 4
     (rw (length-append, length-append, length-bytesOf, length-bytesOf, length-bytesOf, length-bytesOf) (omega arith))

@@ -1,5 +1,5 @@
 -- `path::put_pace` meets its contract.
-use Rattle.path.proofs.WrittenLaws.{pace-old, pace-new}
+use Rattle.path.proofs.StopFields.{pace-old, pace-new}
 use borrow.Author.Needs.{needs}
 use Rattle.path.proofs.put.put_pace.Statement.{statement}
 use Rattle.path.proofs.put.put_pace.Tie as tie

@@ -53,7 +53,8 @@ same-length c = search needs
 
 returns-2 : tie.Need-returns-2
 unfolding pointBytes
-returns-2 c = let a = c .before .before .before .before .before .before .before .before .before .before .before .before .before .before .before .before .before .before .args in
+returns-2 c =
+    let a = c .before .before .before .before .before .before .before .before .before .before .before .before .before .before .before .before .before .before .args in
     let f0 : SFits w32 (getD (a .t3) 0 (pos 0)) = search needs in
     let f1 : SFits w32 (getD (a .t3) 1 (pos 0)) = search needs in
     let f2 : SFits w32 (getD (a .t3) 2 (pos 0)) = search needs in

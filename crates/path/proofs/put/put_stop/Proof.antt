@@ -44,7 +44,8 @@ same-length : tie.Need-same-length
 same-length c = search needs
 
 returns-2 : tie.Need-returns-2
-returns-2 c = let a = c .before .before .before .before .before .before .before .before .before .before .before .before .before .before .before .before .before .args in
+returns-2 c =
+    let a = c .before .before .before .before .before .before .before .before .before .before .before .before .before .before .before .before .before .args in
     let size : c .before .before .before .before .before .before .before .before .before .before .before .before .before .before .before .stop-size .result ≡ stopSize (a .version) = c .before .before .before .before .before .before .before .before .before .before .before .before .before .before .before .stop-size .ensures in
     let pace : 16 + length (paceBytes (a .version) (a .s .speed) (a .s .blend)) ≡ stopSize (a .version) = length-pace (a .version) (a .s .speed) (a .s .blend) in
     let point : length (pointBytes (a .s .at)) ≡ 12 = length-point (a .s .at) in

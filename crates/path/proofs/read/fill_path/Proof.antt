@@ -30,7 +30,8 @@ returns : tie.Need-returns
 returns c = (sym (filled-not _ _ _ (sym (fit (c .before)) ∙ not-true _ (c .if1 .taken))), (sym (filled-not _ _ _ (sym (fit (c .before)) ∙ not-true _ (c .if1 .taken))), sym (filled-not _ _ _ (sym (fit (c .before)) ∙ not-true _ (c .if1 .taken)))))
 
 store-stops-requires : tie.Need-store-stops-requires
-store-stops-requires c κs = let p = fit-parts _ _ _ _ (sym (c .before .before .before .before .stops-fit .ensures) ∙ not-false _ (c .before .before .before .if1 .left)) in
+store-stops-requires c κs =
+    let p = fit-parts _ _ _ _ (sym (c .before .before .before .before .stops-fit .ensures) ∙ not-false _ (c .before .before .before .if1 .left)) in
     (p .0, p .1, p .2)
 
 same-length : tie.Need-same-length

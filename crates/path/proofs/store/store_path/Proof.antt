@@ -27,7 +27,8 @@ put-head-requires : tie.Need-put-head-requires
 put-head-requires c κs = search needs
 
 store-records-requires : tie.Need-store-records-requires
-store-records-requires c κs = let a = c .before .before .before .before .before .before .before .before .before .args in
+store-records-requires c κs =
+    let a = c .before .before .before .before .before .before .before .before .before .args in
     let room : 12 + stopCount (a .k) * stopSize (a .version) ≤ length (now (a .out)) = rw size-is at (c .before .before .before .before .before .before .before .before .before .pre) in
     rw (c .before .before .before .before .before .stop-count .ensures, place-is) (omega (arith, c .before .before .before .put-head .kept .0))
 
@@ -48,7 +49,8 @@ same-length c = search needs
 
 returns : tie.Need-returns
 unfolding pathBytes
-returns c = let a = c .before .before .before .before .before .before .before .before .before .before .before .before .before .before .before .before .before .args in
+returns c =
+    let a = c .before .before .before .before .before .before .before .before .before .before .before .before .before .before .before .before .before .args in
     let ss = lentStops (stopCount (a .k)) (now (a .coords)) (now (a .speeds)) (now (a .blends)) in
     let n = stopCount (a .k) * stopSize (a .version) in
     let room : 12 + n ≤ length (now (a .out)) = rw size-is at (c .before .before .before .before .before .before .before .before .before .before .before .before .before .before .before .before .before .pre) in

@@ -31,14 +31,16 @@ unfolding stopsBytes
 loop-holds c = (omega arith, sym (put-none (now (c .before .before .before .before .args .out)) 8 (omega (arith, place-is (c .before .before .before .before .args .version) (c .before .before .before .before .args .count), c .before .before .before .before .pre))), refl)
 
 mul-put-stop : tie.Need-mul-put-stop Inv-loop μ-loop
-mul-put-stop c = let a = c .before .before .before .before .before .before .before .args in
+mul-put-stop c =
+    let a = c .before .before .before .before .before .before .before .args in
     let size = c .before .before .before .stop-size .result in
     let nl : c .before .before .loop .i * size + size ≤ a .count * size = next-place (c .before .before .loop .i) (a .count) size (c .before .loop-test .taken) in
     let place : stopPlace (a .version) (a .count) ≡ 8 + a .count * size = rw (c .before .before .before .stop-size .ensures) (place-is (a .version) (a .count)) in
     omega (arith, c .before .before .before .before .before .before .before .pre)
 
 add-put-stop : tie.Need-add-put-stop Inv-loop μ-loop
-add-put-stop c = let a = c .before .before .before .before .before .before .before .args in
+add-put-stop c =
+    let a = c .before .before .before .before .before .before .before .args in
     let size = c .before .before .before .stop-size .result in
     let nl : c .before .before .loop .i * size + size ≤ a .count * size = next-place (c .before .before .loop .i) (a .count) size (c .before .loop-test .taken) in
     let place : stopPlace (a .version) (a .count) ≡ 8 + a .count * size = rw (c .before .before .before .stop-size .ensures) (place-is (a .version) (a .count)) in
@@ -57,7 +59,8 @@ loop-less : tie.Need-loop-less Inv-loop μ-loop
 loop-less c = search needs
 
 loop-again : tie.Need-loop-again Inv-loop μ-loop
-loop-again c = let a = c .before .before .before .before .before .before .before .before .before .before .before .args in
+loop-again c =
+    let a = c .before .before .before .before .before .before .before .before .before .before .before .args in
     let i = c .before .before .before .before .before .before .loop .i in
     let inv = c .before .before .before .before .before .before .loop .inv in
     let size = c .before .before .before .before .before .before .before .stop-size .result in
@@ -76,7 +79,8 @@ same-length : tie.Need-same-length Inv-loop μ-loop
 same-length c = search needs
 
 returns : tie.Need-returns Inv-loop μ-loop
-returns c = let done : c .before .loop .i ≡ c .before .before .before .before .before .before .args .count = omega arith in
+returns c =
+    let done : c .before .loop .i ≡ c .before .before .before .before .before .before .args .count = omega arith in
     rw done at (c .before .loop .inv .1)
 
 pub store-records-spec : {M : Type 1} → statement M

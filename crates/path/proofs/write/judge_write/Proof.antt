@@ -26,7 +26,8 @@ judge-stops-requires : tie.Need-judge-stops-requires
 judge-stops-requires c κs = search needs
 
 returns-3 : tie.Need-returns-3
-returns-3 c = let j = (c .before .judge-stops .ensures ∙ ap (λ (n : ℕ). judgeLent n (now (c .before .before .before .before .before .before .before .before .args .coords)) (now (c .before .before .before .before .before .before .before .before .args .speeds)) (now (c .before .before .before .before .before .before .before .before .args .blends))) (c .before .before .stop-count .ensures)) in
+returns-3 c =
+    let j = (c .before .judge-stops .ensures ∙ ap (λ (n : ℕ). judgeLent n (now (c .before .before .before .before .before .before .before .before .args .coords)) (now (c .before .before .before .before .before .before .before .before .args .speeds)) (now (c .before .before .before .before .before .before .before .before .args .blends))) (c .before .before .stop-count .ensures)) in
     j ∙ sym (write-stops (c .before .before .before .before .before .before .before .before .args .version) (c .before .before .before .before .before .before .before .before .args .k) (now (c .before .before .before .before .before .before .before .before .args .coords)) (now (c .before .before .before .before .before .before .before .before .args .speeds)) (now (c .before .before .before .before .before .before .before .before .args .blends)) (c .before .before .before .before .before .before .before .before .args .room) (sym (c .before .before .before .before .before .known-version .ensures) ∙ not-false _ (c .before .before .before .before .if1 .left)) (c .before .before .before .if2 .left) (λ z. c .if3 .taken (j ∙ z)))
 
 loses-any-requires : tie.Need-loses-any-requires

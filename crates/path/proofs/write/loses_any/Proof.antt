@@ -28,7 +28,8 @@ loses-field-requires : tie.Need-loses-field-requires Inv-loop μ-loop
 loses-field-requires c κs = search needs
 
 returns : tie.Need-returns Inv-loop μ-loop
-returns c = let a = c .before .before .before .before .before .before .before .args in
+returns c =
+    let a = c .before .before .before .before .before .before .before .args in
     sym (any-some (a .version) (a .count) (stopAt (now (a .coords)) (now (a .speeds)) (now (a .blends))) (c .before .before .before .before .loop .i) (c .before .before .before .loop-test .taken)
     (rw (c .before .before .stop-at .ensures) at (sym (c .before .loses-field .ensures) ∙ c .if1 .taken)))
 
@@ -42,7 +43,8 @@ loop-again : tie.Need-loop-again Inv-loop μ-loop
 loop-again c = (omega arith, below-more _ (c .before .before .before .before .loop .i) (c .before .before .before .before .loop .inv .1) (rw (c .before .before .stop-at .ensures) at (sym (c .before .loses-field .ensures) ∙ c .if1 .left)))
 
 returns-2 : tie.Need-returns-2 Inv-loop μ-loop
-returns-2 c = let a = c .before .before .before .before .args in
+returns-2 c =
+    let a = c .before .before .before .before .args in
     let done : c .before .loop .i ≡ a .count = omega arith in
     sym (any-none (a .version) (a .count) (stopAt (now (a .coords)) (now (a .speeds)) (now (a .blends))) (rw done at (c .before .loop .inv .1)))
 

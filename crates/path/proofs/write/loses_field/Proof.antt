@@ -1,17 +1,15 @@
 -- `path::loses_field` meets its contract.
 use native.Mathlib.Omega.{arith}
 use borrow.Author.Tests.{lt-leb, le-leb}
-use Rattle.path.specs.Written.{losesField}
+use Rattle.path.proofs.StopFields.{explicit-loss}
 use Rattle.path.proofs.write.loses_field.Statement.{statement}
 use Rattle.path.proofs.write.loses_field.Tie as tie
 
 returns : tie.Need-returns
-unfolding losesField
-returns c = rw (le-leb 5 (c .before .args .version) (c .if1 .taken))
+returns c = rw (explicit-loss, le-leb 5 (c .before .args .version) (c .if1 .taken))
 
 returns-2 : tie.Need-returns-2
-unfolding losesField
-returns-2 c = rw (lt-leb 5 (c .before .before .args .version) (omega arith))
+returns-2 c = rw (explicit-loss, lt-leb 5 (c .before .before .args .version) (omega arith))
 
 pub loses-field-spec : {M : Type 1} → statement M
 loses-field-spec = tie.close (tie.spec returns returns-2)

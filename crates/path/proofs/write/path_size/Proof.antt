@@ -13,11 +13,13 @@ stop-size-requires : tie.Need-stop-size-requires
 stop-size-requires c κs = search needs
 
 mul-result : tie.Need-mul-result
-mul-result c = let r = bytes-range (c .before .before .args .version) (c .before .before .args .k) in
+mul-result c =
+    let r = bytes-range (c .before .before .args .version) (c .before .before .args .k) in
     rw (c .before .stop-count .ensures, c .stop-size .ensures) (omega arith)
 
 add-result : tie.Need-add-result
-add-result c = let r = bytes-range (c .before .before .args .version) (c .before .before .args .k) in
+add-result c =
+    let r = bytes-range (c .before .before .args .version) (c .before .before .args .k) in
     rw (c .before .stop-count .ensures, c .stop-size .ensures) (omega arith)
 
 returns : tie.Need-returns

@@ -21,12 +21,14 @@ judge-write-requires : tie.Need-judge-write-requires
 judge-write-requires c κs = search needs
 
 returns : tie.Need-returns
-returns c = let a = c .before .before .before .before .before .args in
+returns c =
+    let a = c .before .before .before .before .before .args in
     let j = c .before .judge-write .ensures in
     parts (call-is (a .version) (a .k) (now (a .coords)) (now (a .speeds)) (now (a .blends)) (now (a .out)) ∙ rw (← j) (write-refused _ _ _ (c .if1 .taken)))
 
 store-path-requires : tie.Need-store-path-requires
-store-path-requires c κs = let a = c .before .before .before .before .before .before .args in
+store-path-requires c κs =
+    let a = c .before .before .before .before .before .before .args in
     writable (a .version) (a .k) (now (a .coords)) (now (a .speeds)) (now (a .blends)) (length (now (a .out))) (sym (c .before .before .judge-write .ensures) ∙ c .before .if1 .left) .enough
 
 path-size-requires : tie.Need-path-size-requires
@@ -36,7 +38,8 @@ same-length : tie.Need-same-length
 same-length c = search needs
 
 returns-2 : tie.Need-returns-2
-returns-2 c = let a = c .before .before .before .before .before .before .before .before .before .before .args in
+returns-2 c =
+    let a = c .before .before .before .before .before .before .before .before .before .before .args in
     let bytes = pathBytes (a .version) (a .k) (lentStops (stopCount (a .k)) (now (a .coords)) (now (a .speeds)) (now (a .blends))) in
     let done : writeCall (a .version) (a .k) (now (a .coords)) (now (a .speeds)) (now (a .blends)) (now (a .out)) ≡ record { answer = Wrote (length bytes); out = over bytes (now (a .out)) } =
     call-is (a .version) (a .k) (now (a .coords)) (now (a .speeds)) (now (a .blends)) (now (a .out))

@@ -29,12 +29,14 @@ part-result-end-2 : tie.Need-part-result-end-2
 part-result-end-2 c = search needs
 
 returns : tie.Need-returns
-returns c = let s = now (c .before .before .args .s) in
+returns c =
+    let s = now (c .before .before .args .s) in
     let at = c .before .before .args .at in
     take-all (length s - at) (drop at s) (rw length-drop (omega arith))
 
 returns-2 : tie.Need-returns-2
-returns-2 c = let s = now (c .before .before .args .s) in
+returns-2 c =
+    let s = now (c .before .before .args .s) in
     rw (drop-length s, take-nil) (sym (drop-of-length-le s {i = c .before .before .args .at} (omega arith)))
 
 pub after-spec : {M : Type 1} → statement M

@@ -29,7 +29,8 @@ add-result : tie.Need-add-result
 add-result c = search needs
 
 returns : tie.Need-returns
-returns c = let s = now (c .before .before .before .before .before .args .s) in
+returns c =
+    let s = now (c .before .before .before .before .before .args .s) in
     let at = c .before .before .before .before .before .args .at in
     let from : now (c .before .before .before .after .result) ≡ drop at s = c .before .before .before .after .ensures in
     let low : c .before .before .first32 .result ≡ number (take 4 (drop at s)) =

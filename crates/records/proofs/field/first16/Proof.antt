@@ -27,7 +27,8 @@ add-result : tie.Need-add-result
 add-result c = search needs
 
 returns : tie.Need-returns
-returns c = let s = now (c .before .before .before .before .args .s) in
+returns c =
+    let s = now (c .before .before .before .before .args .s) in
     let low : c .before .before .first8 .result ≡ number (take 1 s) = c .before .before .first8 .ensures .0 in
     let high : c .first82 .result ≡ number (take 1 (drop 1 s)) =
     c .first82 .ensures .0 ∙ ap (λ (t : List ℕ). number (take 1 t)) (c .before .after .ensures) in

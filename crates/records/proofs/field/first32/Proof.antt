@@ -27,7 +27,8 @@ add-result : tie.Need-add-result
 add-result c = search needs
 
 returns : tie.Need-returns
-returns c = let s = now (c .before .before .before .before .args .s) in
+returns c =
+    let s = now (c .before .before .before .before .args .s) in
     let low : c .before .before .first16 .result ≡ number (take 2 s) = c .before .before .first16 .ensures .0 in
     let high : c .first162 .result ≡ number (take 2 (drop 2 s)) =
     c .first162 .ensures .0 ∙ ap (λ (t : List ℕ). number (take 2 t)) (c .before .after .ensures) in

@@ -39,7 +39,8 @@ same-length : tie.Need-same-length
 same-length c = search needs
 
 returns-2 : tie.Need-returns-2
-returns-2 c = let s = now (c .before .before .args .s) in
+returns-2 c =
+    let s = now (c .before .before .args .s) in
     let at = c .before .before .args .at in
     let v = c .before .before .args .value in
     let fits : at + 2 ≤ length s = omega arith in

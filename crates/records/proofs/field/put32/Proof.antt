@@ -35,7 +35,8 @@ same-length : tie.Need-same-length
 same-length c = search needs
 
 returns-2 : tie.Need-returns-2
-returns-2 c = let a = c .before .before .before .before .before .before .before .before .before .before .before .args in
+returns-2 c =
+    let a = c .before .before .before .before .before .before .before .before .before .before .before .args in
     let fits : a .at + 4 ≤ length (now (a .s)) = omega arith in
     two-parts 2 (now (a .s)) (a .at) (a .value) (c .before .before .before .before .before .before .put16 .last .0) _ fits (c .before .before .before .before .before .before .put16 .ensures) (c .before .before .put162 .ensures)
 

@@ -31,7 +31,8 @@ same-length : tie.Need-same-length
 same-length c = search needs
 
 returns-2 : tie.Need-returns-2
-returns-2 c = let a = c .before .before .before .before .before .before .before .before .before .before .before .args in
+returns-2 c =
+    let a = c .before .before .before .before .before .before .before .before .before .before .before .args in
     let fits : a .at + (length (bytesOf 2 (a .first)) + length (bytesOf 2 (a .second))) ≤ length (now (a .s)) =
     rw (length-bytesOf, length-bytesOf) (omega arith) in
     c .before .before .put162 .ensures

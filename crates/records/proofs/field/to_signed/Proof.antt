@@ -24,7 +24,8 @@ returns c = simp (lt-ltb _ _ (c .if1 .taken))
 
 returns-2 : tie.Need-returns-2
 unfolding signed
-returns-2 c = let u : ℕ = c .before .args .u in
+returns-2 c =
+    let u : ℕ = c .before .args .u in
     let back : 4294967295 - (4294967295 - u) ≡ u = omega arith in
     simp (back, le-ltb _ _ (c .if1 .left)) (ap negsuc (omega arith))
 

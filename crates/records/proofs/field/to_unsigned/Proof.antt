@@ -9,27 +9,32 @@ use Rattle.records.proofs.field.to_unsigned.Statement.{statement}
 use Rattle.records.proofs.field.to_unsigned.Tie as tie
 
 cast-result : tie.Need-cast-result
-cast-result c = let b = inverted (c .before .args .x) (c .before .fits .x) (rw (toZ-ofZ w32 (c .before .args .x) (c .before .fits .x)) at (c .if1 .taken)) in
+cast-result c =
+    let b = inverted (c .before .args .x) (c .before .fits .x) (rw (toZ-ofZ w32 (c .before .args .x) (c .before .fits .x)) at (c .if1 .taken)) in
     let small : b .bits < 2 ^ 31 = b .small in
     rw (b .same) (tt, record { fits = omega arith })
 
 sub-result : tie.Need-sub-result
-sub-result c = let b = inverted (c .before .args .x) (c .before .fits .x) (rw (toZ-ofZ w32 (c .before .args .x) (c .before .fits .x)) at (c .if1 .taken)) in
+sub-result c =
+    let b = inverted (c .before .args .x) (c .before .fits .x) (rw (toZ-ofZ w32 (c .before .args .x) (c .before .fits .x)) at (c .if1 .taken)) in
     let small : b .bits < 2 ^ 31 = b .small in
     rw (b .same) (omega arith)
 
 cast-result-2 : tie.Need-cast-result-2
-cast-result-2 c = let b = itself (c .before .args .x) (c .before .fits .x) (rw (toZ-ofZ w32 (c .before .args .x) (c .before .fits .x)) at (c .if1 .left)) in
+cast-result-2 c =
+    let b = itself (c .before .args .x) (c .before .fits .x) (rw (toZ-ofZ w32 (c .before .args .x) (c .before .fits .x)) at (c .if1 .left)) in
     let small : b .bits < 2 ^ 31 = b .small in
     rw (b .same) (tt, record { fits = omega arith })
 
 returns : tie.Need-returns
-returns c = let b = inverted (c .before .args .x) (c .before .fits .x) (rw (toZ-ofZ w32 (c .before .args .x) (c .before .fits .x)) at (c .if1 .taken)) in
+returns c =
+    let b = inverted (c .before .args .x) (c .before .fits .x) (rw (toZ-ofZ w32 (c .before .args .x) (c .before .fits .x)) at (c .if1 .taken)) in
     let small : b .bits < 2 ^ 31 = b .small in
     rw (b .same) (sym (b .means))
 
 returns-2 : tie.Need-returns-2
-returns-2 c = let b = itself (c .before .args .x) (c .before .fits .x) (rw (toZ-ofZ w32 (c .before .args .x) (c .before .fits .x)) at (c .if1 .left)) in
+returns-2 c =
+    let b = itself (c .before .args .x) (c .before .fits .x) (rw (toZ-ofZ w32 (c .before .args .x) (c .before .fits .x)) at (c .if1 .left)) in
     let small : b .bits < 2 ^ 31 = b .small in
     rw (b .same) (sym (b .means))
 

@@ -43,7 +43,8 @@ returns-8 c = rw (c .match .keys8)
 
 returns-9 : tie.Need-returns-9
 unfolding isDue isKind
-returns-9 c = let n = c .before .args .found in
+returns-9 c =
+    let n = c .before .args .found in
     let r = c .match .rest in
     let h0 : 0 < n = lt-of-le-ne (omega arith) (λ e. r .1 (sym e)) in
     let h1 : 1 < n = lt-of-le-ne h0 (λ e. r .0 .0 .0 .0 .0 .0 .0 .1 (sym e)) in

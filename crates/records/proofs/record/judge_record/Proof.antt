@@ -13,7 +13,8 @@ after-requires : tie.Need-after-requires
 after-requires c κs = search needs
 
 returns : tie.Need-returns
-returns c = let t = now (c .before .after .result) in
+returns c =
+    let t = now (c .before .after .result) in
     let a = c .before .before .before .args in
     rw (← c .before .after .ensures) (sym (ap takenNumber (too-short (a .kind) (a .long) t (omega arith)) ∙ number-refused _))
 
@@ -25,7 +26,8 @@ is-due-requires c κs = search needs
 
 returns-2 : tie.Need-returns-2
 unfolding kindSaid lengthSaid
-returns-2 c = let t = now (c .before .before .before .before .after .result) in
+returns-2 c =
+    let t = now (c .before .before .before .before .after .result) in
     let a = c .before .before .before .before .before .before .args in
     rw (← c .before .before .before .before .after .ensures) (sym (ap takenNumber (other-kind (a .kind) (a .long) t (omega arith) (ap (isDue (a .kind)) (sym (c .before .before .field16 .ensures)) ∙ sym (c .before .is-due .ensures) ∙ not-true _ (c .if2 .taken))) ∙ number-refused _))
 
@@ -37,7 +39,8 @@ cast-if3 c = search needs
 
 returns-3 : tie.Need-returns-3
 unfolding kindSaid lengthSaid
-returns-3 c = let t = now (c .before .before .before .before .before .before .after .result) in
+returns-3 c =
+    let t = now (c .before .before .before .before .before .before .after .result) in
     let a = c .before .before .before .before .before .before .before .before .args in
     rw (← c .before .before .before .before .before .before .after .ensures) (sym (ap takenNumber (other-length (a .kind) (a .long) t (omega arith) (ap (isDue (a .kind)) (sym (c .before .before .before .before .field16 .ensures)) ∙ sym (c .before .before .before .is-due .ensures) ∙ not-false _ (c .before .before .if2 .left)) (λ l. c .if3 .taken (c .before .field162 .ensures ∙ l))) ∙ number-refused _))
 
@@ -46,13 +49,15 @@ sub-if4 c = search needs
 
 returns-4 : tie.Need-returns-4
 unfolding kindSaid lengthSaid
-returns-4 c = let t = now (c .before .before .before .before .before .before .before .after .result) in
+returns-4 c =
+    let t = now (c .before .before .before .before .before .before .before .after .result) in
     let a = c .before .before .before .before .before .before .before .before .before .args in
     rw (← c .before .before .before .before .before .before .before .after .ensures) (sym (ap takenNumber (cut-off (a .kind) (a .long) t (omega arith) (ap (isDue (a .kind)) (sym (c .before .before .before .before .before .field16 .ensures)) ∙ sym (c .before .before .before .before .is-due .ensures) ∙ not-false _ (c .before .before .before .if2 .left)) (sym (c .before .before .field162 .ensures) ∙ c .before .if3 .left) (omega arith)) ∙ number-refused _))
 
 returns-5 : tie.Need-returns-5
 unfolding kindSaid lengthSaid
-returns-5 c = let t = now (c .before .before .before .before .before .before .before .after .result) in
+returns-5 c =
+    let t = now (c .before .before .before .before .before .before .before .after .result) in
     let a = c .before .before .before .before .before .before .before .before .before .args in
     rw (← c .before .before .before .before .before .before .before .after .ensures) (sym (ap takenNumber (whole (a .kind) (a .long) t (omega arith) (ap (isDue (a .kind)) (sym (c .before .before .before .before .before .field16 .ensures)) ∙ sym (c .before .before .before .before .is-due .ensures) ∙ not-false _ (c .before .before .before .if2 .left)) (sym (c .before .before .field162 .ensures) ∙ c .before .if3 .left) (omega arith)) ∙ number-taken _ _))
 
