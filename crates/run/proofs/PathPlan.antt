@@ -38,7 +38,7 @@ use Rattle.run.specs.declared.PathPlanned.{PathPlanned}
 use Rattle.run.specs.declared.PathPlanned.the-variants.{Done, Refused}
 use Rattle.run.specs.Claim.{ShortestFor}
 use Rattle.run.specs.Calls.{AcceptedRun, Second, went-on, stopped, TimedPlan}
-use Rattle.run.specs.PathPlan.{Lent, runFits, headNumber, runNumber, runAnswer, runLeaves, runMeaning, meaningNumber, answered, PlansPath}
+use Rattle.run.specs.PathPlan.{Lent, runFits, headNumber, runNumber, runValues, runAnswer, runLeaves, runMeaning, meaningNumber, meaningValues, answered, PlansPath}
 use Rattle.run.proofs.Meaning.{GoodPath, path-good, head-small, accepted}
 use Rattle.run.proofs.Claim.{run-shortest, Left, reading-left, left-stops, table-times}
 
@@ -48,10 +48,11 @@ not-done n version k t e = let z : _≡_ {A = ℕ} 0 1 = cc in omega arith
 
 -- what a refusal promises: the number, and nothing written
 pub refuses : (bytes : List ℕ) (highest : ℕ) (l : Lent) (n : ℕ) → runMeaning bytes highest l ≡ noPath n → PlansPath bytes highest l l (Refused n)
-unfolding runAnswer runNumber meaningNumber runLeaves
+unfolding runAnswer runNumber runValues meaningNumber meaningValues runLeaves
 refuses bytes highest l n e = record {
   answer = ap runAnswer (sym e);
   number = ap meaningNumber (sym e);
+  values = ap meaningValues (sym e);
   left = ap (runLeaves l) (sym e);
   claim = λ v k t x. absurd (not-done n v k t x);
 }
@@ -252,10 +253,11 @@ module _ (bytes : List ℕ) (highest version k : ℕ) (l : Lent) (c : List ℤ) 
 
   -- THE CALL KEEPS ITS PROMISE
   pub path-planned : PlansPath bytes highest l (record { coords = c; speeds = s; blends = b; table = table′; order = order′; totals = totals′; pivots = pivots′ }) (answered version k p)
-  unfolding answered runAnswer runNumber meaningNumber runLeaves
+  unfolding answered runAnswer runNumber runValues meaningNumber meaningValues runLeaves
   path-planned = record {
     answer = ap (answered version k) is-done ∙ ap runAnswer (sym meaning);
     number = ap (λ a. runNumber (answered version k a)) is-done ∙ ap meaningNumber (sym meaning);
+    values = ap (λ a. runValues (answered version k a)) is-done ∙ ap meaningValues (sym meaning);
     left = buffers ∙ ap (runLeaves l) (sym meaning);
     claim = λ v j d e. claimed v j d (ap (answered version k) (sym is-done) ∙ e);
   }

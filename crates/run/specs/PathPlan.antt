@@ -1,7 +1,7 @@
 -- A call for a path that is such a run: what it answers, and what it leaves in the lent buffers.
 use mathlib.Core.Path.{_≡_}
 use mathlib.Core.Bool.{Bool, cond, _&&_}
-use mathlib.Core.List.{List}
+use mathlib.Core.List.{List, [], _∷_}
 use Prim.Native.Nat.{ℕ, _+_, _^_}
 use lib.IntN.{ℤ}
 use lib.ListN.{length, take, replicate}
@@ -41,22 +41,15 @@ unfoldable pub headNumber : Lent → HeadRead → ℕ
 headNumber l (head version k rest) = cond (runFits l k) accepted wrongSize
 headNumber l (noHead n) = n
 
--- document 01's number and values of each case of an answer
+-- document 01's number of each case of an answer
 unfoldable pub runNumber : PathPlanned → ℕ
 runNumber (Done version k t) = accepted
 runNumber (Refused n) = n
 
-unfoldable pub runVersion : PathPlanned → ℕ
-runVersion (Done version k t) = version
-runVersion (Refused n) = 0
-
-unfoldable pub runSize : PathPlanned → ℕ
-runSize (Done version k t) = k
-runSize (Refused n) = 0
-
-unfoldable pub runTotal : PathPlanned → ℕ
-runTotal (Done version k t) = t
-runTotal (Refused n) = 0
+-- the version, k and the total; 'zero in every other result' of a refusal
+unfoldable pub runValues : PathPlanned → List ℕ
+runValues (Done version k t) = version ∷ k ∷ t ∷ []
+runValues (Refused n) = 0 ∷ 0 ∷ 0 ∷ []
 
 -- the answer for what the bytes mean: version, k and the total of the wanted order by the stops' travel times
 unfoldable pub runAnswer : PathMeaning → PathPlanned
@@ -92,9 +85,15 @@ unfoldable pub meaningNumber : PathMeaning → ℕ
 meaningNumber (path version k ss) = accepted
 meaningNumber (noPath n) = n
 
+-- and its values
+unfoldable pub meaningValues : PathMeaning → List ℕ
+meaningValues (path version k ss) = version ∷ k ∷ total (entryOf ss) (wanted k (entryOf ss)) ∷ []
+meaningValues (noPath n) = 0 ∷ 0 ∷ 0 ∷ []
+
 -- what the call promises of its answer and of the lent buffers before and after; `claim` is demand 3, whole
 pub record PlansPath (bytes : List ℕ) (highest : ℕ) (before after : Lent) (r : PathPlanned) : Type 0 where
   pub answer : r ≡ runAnswer (runMeaning bytes highest before)
   pub number : runNumber r ≡ meaningNumber (runMeaning bytes highest before)
+  pub values : runValues r ≡ meaningValues (runMeaning bytes highest before)
   pub left : after ≡ runLeaves before (runMeaning bytes highest before)
   pub claim : (version k t : ℕ) → r ≡ Done version k t → ShortestFor bytes highest k (take (2 ^ k) (after .order)) t
