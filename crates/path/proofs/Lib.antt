@@ -1,7 +1,7 @@
 -- Laws of paths.
 pub mod BodyLaws
 pub mod DrawLaws
-mod FillLaws
+pub mod FillLaws
 pub mod HeadLaws
 pub mod Inverse
 pub mod JudgeLaws

@@ -3,7 +3,7 @@ use mathlib.Core.Path.{_≡_, refl, sym}
 use mathlib.Core.Bool.{Bool, true, false}
 use mathlib.Core.List.{List, [], _∷_}
 use Prim.Native.Nat.{ℕ, zero, suc, _+_, _*_, _≤_, _<_, min}
-use native.Mathlib.Nat.{mul-le-mul-right, suc-mul, zero-add, zero-mul}
+use native.Mathlib.Nat.{mul-le-mul-left, mul-le-mul-right, suc-mul, zero-add, zero-mul}
 use native.Mathlib.Omega.{arith}
 use lib.Dec.{leb}
 use lib.ListN.{length, take, drop, drop-of-length-le}
@@ -44,6 +44,13 @@ place-is version i = refl
 pub place-suc : (version i : ℕ) → stopPlace version (suc i) ≡ stopPlace version i + stopSize version
 unfolding stopPlace
 place-suc version i = rw suc-mul (omega arith)
+
+-- a stop's record takes 18 to 20 bytes, so its place lies between
+pub place-range : (version i : ℕ) → (8 + i * 18 ≤ stopPlace version i) × (stopPlace version i ≤ 8 + i * 20)
+place-range version i =
+    let low : i * 18 ≤ i * stopSize version = mul-le-mul-left i (size-range version .0) in
+    let high : i * stopSize version ≤ i * 20 = mul-le-mul-left i (size-range version .1) in
+    rw (place-is version i) (omega arith)
 
 -- one more stop before another lies before it
 pub next-place : (i n size : ℕ) → i < n → i * size + size ≤ n * size

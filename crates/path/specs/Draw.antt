@@ -27,6 +27,7 @@ unfoldable pub goodStops : (version count : ℕ) (s : List ℕ) → List Stop
 goodStops version zero s = []
 goodStops version (suc n) s = goodThen version (goodStops version n) (takeRecord stopKind (recordLength stopKind version 0) s)
 
+-- the stops that are drawn after a head
 unfoldable pub drawnOf : HeadRead → List Stop
 drawnOf (head version k rest) = goodStops version (stopCount k) rest
 drawnOf (noHead n) = []

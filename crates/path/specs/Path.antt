@@ -43,6 +43,7 @@ headFields highest version k rest =
     (cond (leb k maxK) (head version k rest) (noHead wrongK))
     (noHead wrongVersion)
 
+-- the fields of a whole head, or the refusal of its record
 unfoldable pub headOf : (highest : ℕ) → Taken → HeadRead
 headOf highest (taken content rest) = headFields highest (number (take 2 content)) (number (take 2 (drop 2 content))) rest
 headOf highest (refused n) = noHead n
@@ -90,6 +91,7 @@ pub data PathMeaning : Type 0 where
   path : (version k : ℕ) (ss : List Stop) → PathMeaning
   noPath : (number : ℕ) → PathMeaning
 
+-- what the head and the body mean together
 unfoldable pub withBody : (version k : ℕ) → BodyRead → PathMeaning
 withBody version k (stops ss) = path version k ss
 withBody version k (noBody n) = noPath n
@@ -123,14 +125,16 @@ stopIn version i bytes = stopOf version (drop (4 + stopPlace version i) bytes)
 
 -- ---- numbers
 
+-- an accepted body's number is 0
 unfoldable pub bodyNumber : BodyRead → ℕ
 bodyNumber (stops ss) = accepted
 bodyNumber (noBody n) = n
 
--- the number of one stop's record at the front of bytes
+-- the number of a stop's record that was looked for: its refusal, or the judgement of its fields
 unfoldable pub stopVerdict : (version : ℕ) → Taken → ℕ
 stopVerdict version (taken content rest) = judgeStop (stopOf version content)
 stopVerdict version (refused n) = n
 
+-- the number of a stop's record at the front of bytes
 unfoldable pub stopNumber : (version : ℕ) (s : List ℕ) → ℕ
 stopNumber version s = stopVerdict version (takeRecord stopKind (recordLength stopKind version 0) s)

@@ -20,15 +20,17 @@ unfoldable pub headAnswer : HeadRead → Head
 headAnswer (head version k rest) = record { refused = accepted; version = version; k = k }
 headAnswer (noHead n) = record { refused = n; version = 0; k = 0 }
 
--- document 01's number and values of each case of an answer
+-- document 01's number and values of each case of an answer: the number,
 unfoldable pub readNumber : PathRead → ℕ
 readNumber (Read version k) = accepted
 readNumber (Refused n) = n
 
+-- the version,
 unfoldable pub readVersion : PathRead → ℕ
 readVersion (Read version k) = version
 readVersion (Refused n) = 0
 
+-- and k
 unfoldable pub readSize : PathRead → ℕ
 readSize (Read version k) = k
 readSize (Refused n) = 0

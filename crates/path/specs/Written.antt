@@ -66,11 +66,12 @@ writeNumber version k coords speeds blends room =
     wrongK)
     wrongVersion
 
--- document 01's number and value of each case of an answer: the count of bytes written
+-- document 01's number and value of each case of an answer: the number,
 unfoldable pub writtenNumber : PathWritten → ℕ
 writtenNumber (Wrote n) = accepted
 writtenNumber (Refused n) = n
 
+-- and the count of bytes written
 unfoldable pub writtenCount : PathWritten → ℕ
 writtenCount (Wrote n) = n
 writtenCount (Refused n) = 0

@@ -74,15 +74,20 @@ pub fn stop_size(version: u16) -> usize
     2 + record_length(STOP, version)
 }
 
-// Where the record of stop i begins. A place past the end of the bytes is as good as any other there.
+// Where the record of stop i begins. A place past the end of the bytes is as good as any other there; a stop number of 2^59 or more, whose
+// place would not fit, always lies there.
 fn stop_place(bytes: &[u8], version: u16, i: usize) -> usize
     ensures { λ r. ⌜ r ≡ min (stopPlace version i) (8 + length (now (bytes .entry))) ⌝ }
 {
-    let size = stop_size(version);
-    if bytes.len() / size < i {
-        return 8 + bytes.len();
+    let past = 8 + bytes.len();
+    if 0x0800_0000_0000_0000 <= i {
+        return past;
     }
-    8 + i * size
+    let at = 8 + i * stop_size(version);
+    if past < at {
+        return past;
+    }
+    at
 }
 
 // The stop whose content begins at `at`.

@@ -7,25 +7,31 @@ use lib.ListN.{length, take, drop}
 use Rattle.base.specs.Refusal.{accepted, truncated, wrongLength, wrongKind}
 use Rattle.records.specs.Field.{number, bytesOf}
 
--- the kinds of the table in 'Records'
+-- the kinds of the table in 'Records': the head of a path,
 abbrev pub pathKind : ℕ
 pathKind = 1
 
+-- a stop of it,
 abbrev pub stopKind : ℕ
 stopKind = 2
 
+-- the end of a path or an order file,
 abbrev pub endKind : ℕ
 endKind = 3
 
+-- the head of an order file,
 abbrev pub orderKind : ℕ
 orderKind = 4
 
+-- its total and stops,
 abbrev pub stopsKind : ℕ
 stopsKind = 5
 
+-- its fork bits,
 abbrev pub forksKind : ℕ
 forksKind = 6
 
+-- and what the program writes for a refusal
 abbrev pub refusedKind : ℕ
 refusedKind = 7
 
@@ -69,10 +75,11 @@ pub data Taken : Type 0 where
   taken : (content rest : List ℕ) → Taken
   refused : (number : ℕ) → Taken
 
--- the length and the kind that the first four bytes say
+-- the length that the first two bytes say
 unfoldable pub lengthSaid : List ℕ → ℕ
 lengthSaid s = number (take 2 s)
 
+-- the kind that the next two say
 unfoldable pub kindSaid : List ℕ → ℕ
 kindSaid s = number (take 2 (drop 2 s))
 
