@@ -13,11 +13,11 @@ use Rattle.base.specs.Size.{stopCount}
 use Rattle.base.proofs.Size.{stopCount-pow}
 use Rattle.stop.specs.declared.Stop.{Stop}
 use Rattle.stop.specs.Lent.{allInRange, lentStops, coordsOf, speedsOf, blendsOf, stopsFit}
-use Rattle.stop.proofs.Lent.{lent-of}
 use Rattle.path.specs.declared.PathRead.the-variants.{Read, Refused}
 use Rattle.path.specs.Over.{over}
 use Rattle.path.specs.Path.{PathMeaning, path, noPath, readPath}
 use Rattle.path.specs.Reading.{ReadCall, readAs, readCall}
+use Rattle.path.proofs.JudgeLaws.{stops-left}
 use Rattle.times.specs.declared.TableMade.the-variants.{Made}
 use Rattle.times.specs.Table.{entryOf, tableOf, tableAfter, MadeTable}
 use Rattle.times.proofs.Table.{getD-table}
@@ -64,12 +64,6 @@ reading-left bytes highest version k coords speeds blends coords′ speeds′ bl
         let z : _≡_ {A = ℕ} 0 1 = cc in
         absurd (omega arith)
 
--- the stops that a reading left are the path's
-pub left-stops : (k : ℕ) (ss : List Stop) (coords : List ℤ) (speeds blends : List ℕ) → GoodPath k ss
-    → lentStops (stopCount k) (over (coordsOf ss) coords) (over (speedsOf ss) speeds) (over (blendsOf ss) blends) ≡ ss
-unfolding over
-left-stops k ss coords speeds blends g = rw (← (g .count)) (lent-of ss _ _ _ (g .good))
-
 -- the table's entries are the travel times of the stops
 pub table-times : (k : ℕ) (ss : List Stop) → length ss ≡ 2 ^ k → (a b : ℕ) → a < 2 ^ k → b < 2 ^ k → entry (2 ^ k) (tableOf ss) a b ≡ entryOf ss a b
 unfolding entryOf
@@ -98,7 +92,7 @@ claimed bytes highest version k order c r l =
     let fits : ℕ → Bool = λ j. stopsFit (stopCount j) (r .coords) (r .speeds) (r .blends) in
     let g : GoodPath k ss = path-good bytes highest fits version k ss (l .means) in
     let n : length ss ≡ 2 ^ k = g .count ∙ stopCount-pow k (g .small) in
-    let found : lentStops (stopCount k) (r .coords′) (r .speeds′) (r .blends′) ≡ ss = rw (l .points, l .paces, l .rounds) (left-stops k ss _ _ _ g) in
+    let found : lentStops (stopCount k) (r .coords′) (r .speeds′) (r .blends′) ≡ ss = rw (l .points, l .paces, l .rounds) (stops-left bytes highest fits version k ss (l .means) _ _ _) in
     let made : r .table′ ≡ tableOf ss = r .making .table ∙ ap tableOf found in
     record {
       version = version;

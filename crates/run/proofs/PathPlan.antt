@@ -22,7 +22,8 @@ use Rattle.path.proofs.OverLaws.{length-over}
 use Rattle.path.specs.Path.{HeadRead, head, noHead, readHead, PathMeaning, path, noPath, readOn, readPath}
 use Rattle.path.specs.declared.Head.{Head}
 use Rattle.path.specs.Reading.{headAnswer, placesFit, ReadCall, readAs, readCall}
-use Rattle.path.proofs.HeadLaws.{head-seen, answer-good, answer-bad}
+use Rattle.path.proofs.HeadLaws.{Seen, good-head, bad-head, head-seen, answer-bad}
+use Rattle.path.proofs.JudgeLaws.{opened-by, stops-left}
 use Rattle.times.specs.declared.TableMade.{TableMade}
 use Rattle.times.specs.declared.TableMade.the-variants as made
 use Rattle.times.proofs.Table.{length-table}
@@ -39,8 +40,8 @@ use Rattle.run.specs.declared.PathPlanned.the-variants.{Done, Refused}
 use Rattle.run.specs.Claim.{ShortestFor}
 use Rattle.run.specs.Calls.{AcceptedRun, Second, went-on, stopped, TimedPlan}
 use Rattle.run.specs.PathPlan.{Lent, runFits, headNumber, runNumber, runValues, runAnswer, runLeaves, runMeaning, meaningNumber, meaningValues, answered, PlansPath}
-use Rattle.run.proofs.Meaning.{GoodPath, path-good, head-small, accepted}
-use Rattle.run.proofs.Claim.{run-shortest, Left, reading-left, left-stops, table-times}
+use Rattle.run.proofs.Meaning.{GoodPath, path-good, path-fits}
+use Rattle.run.proofs.Claim.{run-shortest, Left, reading-left, table-times}
 
 -- a refusal is no success
 not-done : (n version k t : ℕ) → Refused n ≡ Done version k t → ⊥
@@ -195,11 +196,11 @@ module _ (bytes : List ℕ) (highest version k : ℕ) (l : Lent) (c : List ℤ) 
 
   -- the lengths
   fits : (stopsFit (stopCount k) (l .coords) (l .speeds) (l .blends) ≡ true) × (planFits (stopCount k) (length (l .table)) (length (l .order)) (length (l .totals)) (length (l .pivots)) ≡ true)
-  fits = fits-both l k (accepted bytes highest (runFits l) version k (left .stops) meaning .fits)
+  fits = fits-both l k (path-fits bytes highest (runFits l) version k (left .stops) meaning)
 
   -- the stops that the reading left are the path's
   found : lentStops (stopCount k) c s b ≡ left .stops
-  found = rw (left .points, left .paces, left .rounds) (left-stops k (left .stops) _ _ _ good)
+  found = rw (left .points, left .paces, left .rounds) (stops-left bytes highest (runFits l) version k (left .stops) meaning _ _ _)
 
   -- the buffers keep their lengths
   fits-left : stopsFit (stopCount k) c s b ≡ true
@@ -306,12 +307,17 @@ judge-refuses bytes highest l h e f =
 
 -- a head that is accepted, and then the lengths
 pub judge-accepts : (bytes : List ℕ) (highest : ℕ) (l : Lent) (h : Head) → h ≡ headAnswer (readHead bytes highest) → h .refused ≡ 0
-    → (h .k ≤ 10) × (headNumber l (readHead bytes highest) ≡ cond (runFits l (h .k)) 0 8)
+    → headNumber l (readHead bytes highest) ≡ cond (runFits l (h .k)) 0 8
 unfolding headNumber
-judge-accepts bytes highest l h e z =
-    let n : readHead bytes highest ≡ head (h .version) (h .k) (drop 8 bytes)
-    = rw (← e) at (answer-good bytes highest (readHead bytes highest) (head-seen bytes highest) (sym (ap (λ (x : Head). x .refused) e) ∙ z)) in
-    (head-small bytes highest (h .version) (h .k) (drop 8 bytes) n, ap (headNumber l) n)
+judge-accepts bytes highest l h e z = ap (headNumber l) (opened-by bytes highest (λ j. true) h e z)
+
+-- its k is up to 10
+pub judge-small : (bytes : List ℕ) (highest : ℕ) (h : Head) → h ≡ headAnswer (readHead bytes highest) → h .refused ≡ 0 → h .k ≤ 10
+judge-small bytes highest h e z = seen (opened-by bytes highest (λ j. true) h e z) (head-seen bytes highest)
+  where
+    seen : {r : HeadRead} → r ≡ head (h .version) (h .k) (drop 8 bytes) → Seen bytes highest r → h .k ≤ 10
+    seen x (good-head v j p q r s) = let y : j ≡ h .k = cc in rw (← y) r
+    seen x (bad-head n f) = let y : _≡_ {A = ℕ} 0 1 = cc in absurd (omega arith)
 
 -- the stops do not fit
 pub lengths-short : (l : Lent) (k : ℕ) → placesFit (stopCount k) (length (l .coords)) (length (l .speeds)) (length (l .blends)) ≡ false → _≡_ {A = ℕ} 8 (cond (runFits l k) 0 8)

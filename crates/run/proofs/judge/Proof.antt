@@ -5,7 +5,7 @@ use lib.ListN.{length}
 use borrow.Author.Tests.{not-true, not-false}
 use Rattle.path.specs.Reading.{placesFit}
 use Rattle.run.specs.PathPlan.{Lent}
-use Rattle.run.proofs.PathPlan.{judge-refuses, judge-accepts, lengths-short, lengths-rest}
+use Rattle.run.proofs.PathPlan.{judge-refuses, judge-accepts, judge-small, lengths-short, lengths-rest}
 use borrow.Author.Needs.{needs}
 use Rattle.run.proofs.judge.Statement.{statement}
 use Rattle.run.proofs.judge.Tie as tie
@@ -40,7 +40,7 @@ returns-2 c =
     let l = lent (c .before .before .before .before .before .before .before .before .before .before .before .before) in
     let k : ℕ = c .before .before .before .before .judge-head .result .k in
     let ok = judge-accepts (c .before .before .before .before .before .before .before .before .before .before .before .before .args .bytes .now) (c .before .before .before .before .before .before .before .before .before .before .before .before .args .highest) l (c .before .before .before .before .judge-head .result) (c .before .before .before .before .judge-head .ensures) (c .before .before .before .if1 .left) in
-    lengths-short l k (rw (c .before .before .stop-count .ensures) at (sym (c .before .stops-fit .ensures) ∙ not-true _ (c .if2 .taken))) ∙ sym (ok .1)
+    lengths-short l k (rw (c .before .before .stop-count .ensures) at (sym (c .before .stops-fit .ensures) ∙ not-true _ (c .if2 .taken))) ∙ sym ok
 
 judge-lengths-requires : tie.Need-judge-lengths-requires
 judge-lengths-requires c κs = search needs
@@ -50,7 +50,7 @@ returns-3 c =
     let l = lent (c .before .before .before .before .before .before .before .before .before .before .before .before .before) in
     let k : ℕ = c .before .before .before .before .before .judge-head .result .k in
     let ok = judge-accepts (c .before .before .before .before .before .before .before .before .before .before .before .before .before .args .bytes .now) (c .before .before .before .before .before .before .before .before .before .before .before .before .before .args .highest) l (c .before .before .before .before .before .judge-head .result) (c .before .before .before .before .before .judge-head .ensures) (c .before .before .before .before .if1 .left) in
-    c .judge-lengths .ensures ∙ lengths-rest l k (ok .0) (rw (c .before .before .before .stop-count .ensures) at (sym (c .before .before .stops-fit .ensures) ∙ not-false _ (c .before .if2 .left))) ∙ sym (ok .1)
+    c .judge-lengths .ensures ∙ lengths-rest l k (judge-small (c .before .before .before .before .before .before .before .before .before .before .before .before .before .args .bytes .now) (c .before .before .before .before .before .before .before .before .before .before .before .before .before .args .highest) (c .before .before .before .before .before .judge-head .result) (c .before .before .before .before .before .judge-head .ensures) (c .before .before .before .before .if1 .left)) (rw (c .before .before .before .stop-count .ensures) at (sym (c .before .before .stops-fit .ensures) ∙ not-false _ (c .before .if2 .left))) ∙ sym ok
 
 pub judge-spec : {M : Type 1} → statement M
 judge-spec =
