@@ -7,7 +7,7 @@ use native.Mathlib.Omega.{arith}
 use lib.ListN.{length, getD, take, drop, length-append, length-take, length-drop}
 use lib.Seq.{ext-getD, getD-take, getD-drop, take-at, drop-at, take-add, length-take-le, drop-drop}
 use Rattle.base.specs.Lists.{tabulate}
-use Rattle.base.proofs.Lists.{length-tabulate, tabulate-getD, tabulate-same}
+use Rattle.base.proofs.Lists.{length-tabulate, tabulate-of, tabulate-cong, tabulate-suc}
 use Rattle.records.specs.Field.{number, bytesOf, areBytes}
 use Rattle.records.proofs.FieldLaws.{length-bytesOf, number-bytesOf, bytesOf-number, areBytes-take, areBytes-drop}
 use Rattle.records.proofs.RecordLaws.{length-recordBytes}
@@ -70,7 +70,7 @@ stop-read (a ∷ o) rest small (suc p) b =
 pub stops-read : (n : ℕ) (o rest : List ℕ) → length o ≡ n → ((p : ℕ) → p < n → getD o p 0 < 65536) → stopsIn n (stopBytes o ++ rest) ≡ o
 unfolding stopsIn
 stops-read n o rest e small =
-    sym (tabulate-getD o 0 (λ p. number (take 2 (drop (2 * p) (stopBytes o ++ rest)))) n e
+    sym (tabulate-of n (λ p. number (take 2 (drop (2 * p) (stopBytes o ++ rest)))) o 0 e
     (λ p b. sym (stop-read o rest (λ q c. small q (omega arith)) p (omega arith))))
 
 -- bytes that were read as stops are written again
@@ -82,13 +82,14 @@ stops-written (suc n) s bytes h =
     let l : length x ≡ 2 = length-take-le 2 (drop (2 * n) s) (rw length-drop (omega arith)) in
     let e : 2 * suc n ≡ 2 * n + 2 = omega arith in
     let w : bytesOf 2 (number x) ≡ x = ap (λ (i : ℕ). bytesOf i (number x)) (sym l) ∙ bytesOf-number x (areBytes-take 2 _ (areBytes-drop (2 * n) s bytes)) in
-    stopBytes-snoc (tabulate (λ p. number (take 2 (drop (2 * p) s))) n) (number x)
+    ap stopBytes (tabulate-suc n (λ p. number (take 2 (drop (2 * p) s))))
+    ∙ stopBytes-snoc (tabulate n (λ p. number (take 2 (drop (2 * p) s)))) (number x)
     ∙ rw (e, take-add (2 * n) 2 s, w) (ap (λ (y : List ℕ). y ++ x) (stops-written n s bytes (omega arith)))
 
 -- as many stops as were asked for
 pub length-stopsIn : (n : ℕ) (s : List ℕ) → length (stopsIn n s) ≡ n
 unfolding stopsIn
-length-stopsIn n s = length-tabulate _ n
+length-stopsIn n s = length-tabulate n _
 
 -- ---- parts of bytes
 
@@ -108,7 +109,7 @@ part-part a b c s h = ext-getD 0 (take a (drop b (take c s))) (take a (drop b s)
 pub stops-part : (n b c : ℕ) (s : List ℕ) → b + 2 * n ≤ c → stopsIn n (drop b (take c s)) ≡ stopsIn n (drop b s)
 unfolding stopsIn
 stops-part n b c s h =
-    tabulate-same (λ p. number (take 2 (drop (2 * p) (drop b (take c s))))) (λ p. number (take 2 (drop (2 * p) (drop b s)))) n each
+    tabulate-cong n (λ p. number (take 2 (drop (2 * p) (drop b (take c s))))) (λ p. number (take 2 (drop (2 * p) (drop b s)))) each
   where
     each : (p : ℕ) → p < n → number (take 2 (drop (2 * p) (drop b (take c s)))) ≡ number (take 2 (drop (2 * p) (drop b s)))
     each p l = rw (drop-drop (2 * p) b (take c s), drop-drop (2 * p) b s) (ap number (part-part 2 (b + 2 * p) c s (omega arith)))

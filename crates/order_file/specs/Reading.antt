@@ -27,7 +27,7 @@ pub data Said : Type 0 where
 
 -- n stops of 2 bytes; a byte that is not there counts as 0
 unfoldable pub stopsIn : (n : ℕ) (s : List ℕ) → List ℕ
-stopsIn n s = tabulate (λ p. number (take 2 (drop (2 * p) s))) n
+stopsIn n s = tabulate n (λ p. number (take 2 (drop (2 * p) s)))
 
 -- the end record, and 'bytes after the end record'
 unfoldable pub endThen : (total : ℕ) (order bits : List ℕ) → Taken → Said

@@ -3,7 +3,6 @@ pub mod Same
 pub mod Allowed
 pub mod Bits
 pub mod Marks
-pub mod Fill
 pub mod Size
 pub mod Shift
 pub mod Calls

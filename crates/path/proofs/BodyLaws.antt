@@ -14,8 +14,8 @@ use Rattle.records.specs.Record.{recordLength, takeRecord, Taken, refused, take
 use Rattle.records.proofs.LengthLaws.{end-length}
 use Rattle.records.proofs.RecordLaws.{by-taken, number-bad, number-good}
 use Rattle.stop.specs.declared.Stop.{Stop}
-use Rattle.stop.specs.Tabulate.{tabulate}
-use Rattle.stop.proofs.Tabulate.{tabulate-cong}
+use Rattle.base.specs.Lists.{tabulate}
+use Rattle.base.proofs.Lists.{tabulate-cong}
 use Rattle.path.specs.Path.{stopOf, stopIn, stopNumber, stopThen, andStop, endOf, noBody, stops, BodyRead, bodyNumber, stopSize, stopPlace, readBody}
 use Rattle.path.specs.Reading.{stopsIn}
 use Rattle.path.proofs.PlaceLaws.{place-suc}

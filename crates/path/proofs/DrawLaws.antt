@@ -16,7 +16,7 @@ use Rattle.records.proofs.RecordLaws.{by-taken}
 use Rattle.stop.specs.declared.Stop.{Stop}
 use Rattle.stop.specs.Stop.{inRange, judgeStop, zeroStop}
 use Rattle.stop.proofs.Limits.{judged-good, judged-bad}
-use Rattle.stop.proofs.Tabulate.{length-tabulate, tabulate-suc, getD-tabulate}
+use Rattle.base.proofs.Lists.{length-tabulate, tabulate-suc, getD-tabulate}
 use Rattle.path.specs.Path.{head, noHead, readHead, readBody, BodyRead, stops, bodyNumber, stopOf, stopIn, stopNumber, stopVerdict, stopSize, stopPlace, withBody}
 use Rattle.path.specs.Draw.{Draw, drawn, ended, drawRefused, goodThen, goodStops, drawnOf, lastDraw, drawAt}
 use Rattle.path.specs.Reading.{stopsIn}

@@ -13,10 +13,10 @@ use borrow.Author.Tests.{leb-true}
 use Rattle.stop.specs.declared.Stop.{Stop}
 use Rattle.stop.specs.Stop.{coordinate}
 use Rattle.stop.specs.Lent.{coordsOf, speedsOf, blendsOf, stopsFit}
-use Rattle.stop.specs.Tabulate.{tabulate}
+use Rattle.base.specs.Lists.{tabulate}
 use Rattle.stop.proofs.Lent.{length-coordsOf, length-speedsOf, length-blendsOf}
 use Rattle.stop.proofs.Limits.{and-left, and-right}
-use Rattle.stop.proofs.Tabulate.{length-tabulate, tabulate-suc}
+use Rattle.base.proofs.Lists.{length-tabulate, tabulate-suc}
 use Rattle.path.specs.Over.{over}
 use Rattle.path.specs.Reading.{filled, placesFit}
 use Rattle.records.specs.Put.{put}

@@ -11,7 +11,7 @@ use borrow.Author.Tests.{lt-ltb, le-ltb, le-leb, lt-leb, eq-eqb, ne-eqb, ltb-fal
 use Rattle.base.specs.Size.{stopCount}
 use Rattle.stop.specs.declared.Stop.{Stop}
 use Rattle.stop.specs.Lent.{lentStops, judgeLent}
-use Rattle.stop.specs.Tabulate.{tabulate}
+use Rattle.base.specs.Lists.{tabulate}
 use Rattle.path.specs.declared.PathWritten.the-variants.{Wrote, Refused}
 use Rattle.path.specs.Over.{over}
 use Rattle.path.specs.Path.{knownVersion, pathSize}

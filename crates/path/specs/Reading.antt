@@ -8,7 +8,7 @@ use Rattle.base.specs.Refusal.{accepted}
 use Rattle.base.specs.Size.{stopCount}
 use Rattle.stop.specs.declared.Stop.{Stop}
 use Rattle.stop.specs.Lent.{coordsOf, speedsOf, blendsOf, stopsFit}
-use Rattle.stop.specs.Tabulate.{tabulate}
+use Rattle.base.specs.Lists.{tabulate}
 use Rattle.path.specs.declared.Head.{Head}
 use Rattle.path.specs.declared.PathRead.{PathRead}
 use Rattle.path.specs.declared.PathRead.the-variants.{Read, Refused}

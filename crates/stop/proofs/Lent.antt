@@ -14,9 +14,9 @@ use lib.IntN.{ℤ, pos}
 use borrow.Author.Tests.{leb-true}
 use Rattle.stop.specs.declared.Stop.{Stop}
 use Rattle.stop.specs.Stop.{inRange, coordinate, zeroStop}
-use Rattle.stop.specs.Tabulate.{tabulate}
+use Rattle.base.specs.Lists.{tabulate}
 use Rattle.stop.specs.Lent.{pointAt, stopAt, lentStops, coordsOf, speedsOf, blendsOf, allInRange, stopsFit, judgeAll, judgeLent}
-use Rattle.stop.proofs.Tabulate.{length-tabulate, getD-tabulate, tabulate-cong, tabulate-getD, map-tabulate}
+use Rattle.base.proofs.Lists.{length-tabulate, getD-tabulate, tabulate-cong, tabulate-getD, map-tabulate}
 use Rattle.stop.proofs.Verdict.{test-passed, rest-passed}
 use Rattle.stop.proofs.Limits.{Good, good, and-left, and-right}
 

@@ -1,5 +1,4 @@
 -- Laws of the crate's definitions.
-pub mod Tabulate
 pub mod Verdict
 pub mod Limits
 pub mod Lent

@@ -9,7 +9,7 @@ use lib.IntN.{ℤ, pos}
 use Rattle.base.specs.Refusal.{accepted, outOfRange, wrongSize}
 use Rattle.stop.specs.declared.Stop.{Stop}
 use Rattle.stop.specs.Stop.{inRange, coordinate}
-use Rattle.stop.specs.Tabulate.{tabulate}
+use Rattle.base.specs.Lists.{tabulate}
 
 -- the coordinates of stop i; a number beyond a buffer's end counts as 0
 unfoldable pub pointAt : List ℤ → ℕ → List ℤ

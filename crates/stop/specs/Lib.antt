@@ -1,5 +1,4 @@
 -- What a stop is and when it is good, stops in lent buffers, and the travel time between two.
 pub mod Stop
-pub mod Tabulate
 pub mod Lent
 pub mod Time

@@ -11,11 +11,11 @@ use borrow.Author.Tests.{eqb-true}
 use Rattle.base.specs.Size.{maxK, stopCount}
 use Rattle.stop.specs.declared.Stop.{Stop}
 use Rattle.stop.specs.Stop.{zeroStop}
-use Rattle.stop.specs.Tabulate.{tabulate}
+use Rattle.base.specs.Lists.{tabulate}
 use Rattle.stop.specs.Lent.{stopAt, lentStops, allInRange}
 use Rattle.stop.specs.Time.{timeBetween, longestTime}
 use Rattle.stop.proofs.Verdict.{test-passed, rest-passed}
-use Rattle.stop.proofs.Tabulate.{length-tabulate, getD-tabulate, tabulate-cong}
+use Rattle.base.proofs.Lists.{length-tabulate, getD-tabulate, tabulate-cong}
 use Rattle.stop.proofs.Lent.{length-lent, getD-lent, lent-good, each-good, judged-lent}
 use Rattle.stop.proofs.Time.{timeOrZero-good, timeBetween-bound}
 use Rattle.times.specs.declared.TableMade.the-variants.{Made, Refused}

@@ -7,8 +7,8 @@ use native.Mathlib.Numerals.{add-one}
 use native.Mathlib.Omega.{arith}
 use lib.ListN.{length, getD, take, drop, set, length-append, take-append-drop, drop-of-length-le}
 use lib.Seq.{drop-cons, set-at, length-take-le, take-at, drop-append-add, drop-drop}
-use Rattle.stop.specs.Tabulate.{tabulate}
-use Rattle.stop.proofs.Tabulate.{length-tabulate, tabulate-suc}
+use Rattle.base.specs.Lists.{tabulate}
+use Rattle.base.proofs.Lists.{length-tabulate, tabulate-suc}
 use Rattle.times.specs.Rows.{rows}
 use Rattle.times.proofs.Rows.{length-rows, rows-suc}
 

@@ -10,7 +10,7 @@ use Rattle.base.specs.Refusal.{accepted, wrongK, wrongSize}
 use Rattle.base.specs.Size.{maxK, stopCount}
 use Rattle.stop.specs.declared.Stop.{Stop}
 use Rattle.stop.specs.Stop.{zeroStop}
-use Rattle.stop.specs.Tabulate.{tabulate}
+use Rattle.base.specs.Lists.{tabulate}
 use Rattle.stop.specs.Lent.{lentStops, judgeLent}
 use Rattle.stop.specs.Time.{timeBetween}
 use Rattle.times.specs.declared.TableMade.{TableMade}

@@ -4,7 +4,7 @@ ghost use mathlib.Core.Path.{_≡_};
 ghost use mathlib.Core.List.{_++_};
 ghost use Prim.Native.Nat.{_+_, _*_, _≤_};
 ghost use lib.ListN.{length, take, drop};
-ghost use Rattle.stop.specs.Tabulate.{tabulate};
+ghost use Rattle.base.specs.Lists.{tabulate};
 ghost use Rattle.times.specs.Rows.{rows};
 ghost use Rattle.times.specs.Lent.{lentTime};
 

@@ -83,8 +83,8 @@ placeOf-bit k F i h b =
 
 -- an order has 2^k stops
 pub length-orderOf : (k F : ℕ) → length (orderOf k F) ≡ 2 ^ k
-length-orderOf k F = length-tabulate (stopIn k F) (2 ^ k)
+length-orderOf k F = length-tabulate (2 ^ k) (stopIn k F)
 
 -- an order lists the stop in each place
 pub getD-orderOf : (k F p : ℕ) → p < 2 ^ k → getD (orderOf k F) p 0 ≡ stopIn k F p
-getD-orderOf k F p b = getD-tabulate (stopIn k F) (2 ^ k) p 0 b
+getD-orderOf k F p b = getD-tabulate (2 ^ k) (stopIn k F) p 0 b

@@ -9,7 +9,7 @@ use native.Mathlib.Omega.{arith}
 use lib.ListN.{length, getD, length-append, length-map, List·getD-append, List·getD-map}
 use lib.Seq.{getD-append-add}
 use Rattle.tree.specs.Fork.{bit, side, stopOf}
-use Rattle.base.proofs.Lists.{tabulate-getD}
+use Rattle.base.proofs.Lists.{tabulate-of}
 use Rattle.tree.specs.Order.{placeOf, down, stopIn, orderOf, below}
 use Rattle.tree.specs.Neighbour.{inPlace}
 use Rattle.tree.proofs.Bit.{shr-add}
@@ -66,7 +66,7 @@ getD-below F (suc m) v p b = go (getD-below F m) (decLt p (2 ^ m))
 
 -- an order is that list from the root: one side and then the other, swapped exactly at the exchanged forks
 pub orderOf-sides : (k F : ℕ) → map (stopOf k) (below F k 1) ≡ orderOf k F
-orderOf-sides k F = tabulate-getD (map (stopOf k) (below F k 1)) 0 (stopIn k F) (2 ^ k) (length-map (below F k 1) (stopOf k) ∙ length-below F k 1) each
+orderOf-sides k F = tabulate-of (2 ^ k) (stopIn k F) (map (stopOf k) (below F k 1)) 0 (length-map (below F k 1) (stopOf k) ∙ length-below F k 1) each
   where
     each : (p : ℕ) → p < 2 ^ k → getD (map (stopOf k) (below F k 1)) p 0 ≡ stopIn k F p
     each p b = rw zero-sub at (List·getD-map (stopOf k) (below F k 1) p 0) ∙ ap (stopOf k) (getD-below F k 1 p b)

@@ -29,7 +29,7 @@ stopIn k F p = stopOf k (down F p k 1)
 
 -- 'An order lists the stop in each place 0 to n−1'
 abbrev pub orderOf : ℕ → ℕ → List ℕ
-orderOf k F = tabulate (stopIn k F) (2 ^ k)
+orderOf k F = tabulate (2 ^ k) (stopIn k F)
 
 -- 'It is allowed exactly if some set of forks gives it'
 abbrev pub Allowed : ℕ → List ℕ → Type 0

@@ -6,7 +6,7 @@ use lib.ListN.{length}
 use denote.Ref.{now}
 use borrow.Author.Needs.{needs}
 use Rattle.base.specs.Size.{stopCount}
-use Rattle.stop.specs.Tabulate.{tabulate}
+use Rattle.base.specs.Lists.{tabulate}
 use Rattle.times.specs.Rows.{rows}
 use Rattle.times.specs.Lent.{lentTime}
 use Rattle.times.specs.Table.{judgeTable}

@@ -8,7 +8,7 @@ use lib.Seq.{drop-drop}
 use Rattle.base.specs.Lists.{tabulate}
 use Rattle.base.proofs.Size.{stopCount-pow, pow-le-1024}
 use Rattle.records.specs.Field.{number}
-use Rattle.orders.proofs.Fill.{tabulate-more}
+use Rattle.base.proofs.Lists.{tabulate-more}
 use Rattle.order_file.specs.Reading.{stopsIn}
 use Rattle.order_file.specs.File.{stopsPlace}
 use borrow.Author.Needs.{needs}
@@ -16,7 +16,7 @@ use Rattle.order_file.proofs.check.store_stops.Statement.{statement}
 use Rattle.order_file.proofs.check.store_stops.Tie as tie
 
 abbrev Inv-loop : tie.InvT-loop
-Inv-loop k file order₀ n p₀ order p = (n ≡ 2 ^ k) × (p ≤ n) × (length order ≡ length order₀) × (order ≡ tabulate (λ q. number (take 2 (drop (2 * q) (drop stopsPlace file)))) p ++ drop p order₀)
+Inv-loop k file order₀ n p₀ order p = (n ≡ 2 ^ k) × (p ≤ n) × (length order ≡ length order₀) × (order ≡ tabulate p (λ q. number (take 2 (drop (2 * q) (drop stopsPlace file)))) ++ drop p order₀)
 
 abbrev μ-loop : tie.MeasureT-loop
 μ-loop k file order₀ n p₀ order p = n - p
@@ -67,7 +67,7 @@ loop-again c =
     let f : ℕ → ℕ = λ q. number (take 2 (drop (2 * q) (drop stopsPlace file))) in
     let b : l .p < length (s .args .order .now) = omega (arith, l .inv .0, s .pre .1) in
     let here : c .field16 .result ≡ f (l .p) = c .field16 .ensures ∙ ap (λ (x : List ℕ). number (take 2 x)) (sym (drop-drop (2 * l .p) stopsPlace file)) in
-    (l .inv .0, omega arith, simp length-set (l .inv .2), ap₂ (λ (x : List ℕ) (y : ℕ). set x (l .p) y) (l .inv .3) here ∙ tabulate-more f (l .p) (s .args .order .now) b)
+    (l .inv .0, omega arith, simp length-set (l .inv .2), ap₂ (λ (x : List ℕ) (y : ℕ). set x (l .p) y) (l .inv .3) here ∙ tabulate-more (l .p) f (s .args .order .now) 0 b)
 
 same-length : tie.Need-same-length Inv-loop μ-loop
 same-length c = c .before .loop .inv .2
@@ -79,7 +79,7 @@ returns c =
     let l = c .before .loop in
     let f : ℕ → ℕ = λ q. number (take 2 (drop (2 * q) (drop stopsPlace (s .args .file .now)))) in
     let e : l .p ≡ 2 ^ s .args .k = omega arith in
-    l .inv .3 ∙ ap (λ (x : ℕ). tabulate f x ++ drop x (s .args .order .now)) e
+    l .inv .3 ∙ ap (λ (x : ℕ). tabulate x f ++ drop x (s .args .order .now)) e
 
 pub store-stops-spec : {M : Type 1} → statement M
 store-stops-spec =

@@ -8,13 +8,13 @@ use Rattle.base.specs.Lists.{tabulate}
 use Rattle.base.proofs.Size.{stopCount-pow, pow-le-1024}
 use Rattle.tree.specs.Order.{stopIn}
 use Rattle.orders.specs.Bits.{byteCount, setOfBits}
-use Rattle.orders.proofs.Fill.{tabulate-more}
+use Rattle.base.proofs.Lists.{tabulate-more}
 use borrow.Author.Needs.{needs}
 use Rattle.orders.proofs.places.write_order.Statement.{statement}
 use Rattle.orders.proofs.places.write_order.Tie as tie
 
 abbrev Inv-loop : tie.InvT-loop
-Inv-loop k bits order₀ n p₀ order p = (n ≡ 2 ^ k) × (p ≤ n) × (length order ≡ length order₀) × (order ≡ tabulate (stopIn k (setOfBits (take (byteCount (2 ^ k)) bits))) p ++ drop p order₀)
+Inv-loop k bits order₀ n p₀ order p = (n ≡ 2 ^ k) × (p ≤ n) × (length order ≡ length order₀) × (order ≡ tabulate p (stopIn k (setOfBits (take (byteCount (2 ^ k)) bits))) ++ drop p order₀)
 
 abbrev μ-loop : tie.MeasureT-loop
 μ-loop k bits order₀ n p₀ order p = n - p
@@ -62,7 +62,7 @@ loop-again c =
     let k : ℕ = s .args .k in
     let f : ℕ → ℕ = stopIn k (setOfBits (take (byteCount (2 ^ k)) (s .args .bits .now))) in
     let b : l .p < length (s .args .order .now) = omega (arith, l .inv .0, s .pre .2) in
-    (l .inv .0, omega arith, simp length-set (l .inv .2), ap₂ (λ (x : List ℕ) (y : ℕ). set x (l .p) y) (l .inv .3) (c .stop-in .ensures .0) ∙ tabulate-more f (l .p) (s .args .order .now) b)
+    (l .inv .0, omega arith, simp length-set (l .inv .2), ap₂ (λ (x : List ℕ) (y : ℕ). set x (l .p) y) (l .inv .3) (c .stop-in .ensures .0) ∙ tabulate-more (l .p) f (s .args .order .now) 0 b)
 
 same-length : tie.Need-same-length Inv-loop μ-loop
 same-length c = c .before .loop .inv .2
@@ -74,7 +74,7 @@ returns c =
     let k : ℕ = s .args .k in
     let f : ℕ → ℕ = stopIn k (setOfBits (take (byteCount (2 ^ k)) (s .args .bits .now))) in
     let e : l .p ≡ 2 ^ k = omega arith in
-    l .inv .3 ∙ ap (λ (x : ℕ). tabulate f x ++ drop x (s .args .order .now)) e
+    l .inv .3 ∙ ap (λ (x : ℕ). tabulate x f ++ drop x (s .args .order .now)) e
 
 pub write-order-spec : {M : Type 1} → statement M
 write-order-spec =

@@ -8,8 +8,8 @@ use lib.IntN.{ℤ}
 use lib.ListN.{length, take, drop}
 use denote.Ref.{now}
 use borrow.Author.Needs.{needs}
-use Rattle.stop.specs.Tabulate.{tabulate}
-use Rattle.stop.proofs.Tabulate.{length-tabulate}
+use Rattle.base.specs.Lists.{tabulate}
+use Rattle.base.proofs.Lists.{length-tabulate}
 use Rattle.times.specs.Rows.{rows}
 use Rattle.times.specs.Lent.{lentTime}
 use Rattle.times.proofs.Written.{row-fits, next-row, all-rows}
