@@ -7,12 +7,14 @@ use evidence::{
     guard::{Against, Guarded},
     lent::Lent,
     random::Random,
+    reading::refusal,
 };
 
-/// Calls the planner with guarded buffers, and compares with the call on ordinary ones.
+/// Calls the planner with guarded buffers, and compares with the call on ordinary ones, which is accepted or refused as is due.
 fn guarded(k: u16, table: &[u32], before: &Lent) {
     let mut ordinary = before.clone();
     let due = ordinary.plan(k, table);
+    assert_eq!(due.err(), refusal(k, table.len(), before.order.len(), before.totals.len(), before.pivots.len()));
     for against in [Against::Start, Against::End] {
         let table = Guarded::new(table, against).read_only();
         let mut order = Guarded::new(&before.order, against);
