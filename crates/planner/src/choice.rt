@@ -14,6 +14,12 @@ pub struct Choice {
     pub stop: usize,
 }
 
+// What is held for two neighbouring stops.
+pub struct Two {
+    pub one: Choice,
+    pub other: Choice,
+}
+
 // A total above that of every order: nothing is held yet.
 pub const UNREACHED: u64 = 9_223_372_036_854_775_808;
 
@@ -71,6 +77,46 @@ pub fn cheapest(
     };
     for j in first..first + r {
         held = weigh(held, totals[old + j], time_of(table, n, j, to), j);
+    }
+    held
+}
+
+// Weighs one candidate for the stops `to` and `to` + 1.
+fn weigh_two(held: Two, total: u64, table: &[u32], n: usize, from: usize, to: usize) -> Two
+    requires { ⌜ (total ≤ unreached) × (from < n) × (to + 1 < n) × (n ≤ 1024) × (length (now table) ≡ n * n) ⌝ }
+    ensures { λ c. ⌜ (c .one .total, c .one .stop) ≡ turn true (total + entry n (now (table .entry)) from to) from (held .one .total, held .one .stop) ⌝ }
+    ensures { λ c. ⌜ (c .other .total, c .other .stop) ≡ turn true (total + entry n (now (table .entry)) from (to + 1)) from (held .other .total, held .other .stop) ⌝ }
+{
+    let one = weigh(held.one, total, time_of(table, n, from, to), from);
+    let other = weigh(held.other, total, time_of(table, n, from, to + 1), from);
+    Two { one, other }
+}
+
+// The cheapest ways to the stops `to` and `to` + 1 from the same r stops, in one pass over them.
+pub fn cheapest_two(
+    table: &[u32],
+    n: usize,
+    totals: &[u64],
+    old: usize,
+    first: usize,
+    r: usize,
+    to: usize,
+) -> Two
+    requires { ⌜ (first + r ≤ n) × (to + 1 < n) × (n ≤ 1024) × (old + n ≤ length (now totals)) × (length (now table) ≡ n * n) ⌝ }
+    requires { ⌜ ((j : ℕ) → first ≤ j → j < first + r → getD (now totals) (old + j) 0 ≤ unreached) ⌝ }
+    ensures { λ c. ⌜ (c .one .total, c .one .stop) ≡ leastFrom (through n (now (table .entry)) (now (totals .entry)) old to) first r ⌝ }
+    ensures { λ c. ⌜ (c .other .total, c .other .stop) ≡ leastFrom (through n (now (table .entry)) (now (totals .entry)) old (to + 1)) first r ⌝ }
+{
+    let none = Choice {
+        total: UNREACHED,
+        stop: 0,
+    };
+    let mut held = Two {
+        one: none,
+        other: none,
+    };
+    for j in first..first + r {
+        held = weigh_two(held, totals[old + j], table, n, j, to);
     }
     held
 }
