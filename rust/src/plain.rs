@@ -3,7 +3,8 @@
 //!
 //! There are two loop orders, and each is written once: `Columns` is the paper's (for each stop its candidates), `Rows` goes along the
 //! table's rows (for each candidate the stops that it may come before). `Checked` and `Unchecked` reach the numbers with and without the
-//! bounds checks. `Slices` goes along the rows too, in the way that spares most checks: by slices and iterators.
+//! bounds checks. `Slices` goes along the rows too, in the way that spares most checks: by slices and iterators. `Pairs` is the proved
+//! planner's shape: the paper's order with two neighbouring stops at a time.
 
 use std::ops::Range;
 
@@ -132,6 +133,42 @@ impl Step for Slices {
                         *mark = pivot;
                     }
                 }
+            }
+        }
+    }
+}
+
+/// The smaller of two totals with its stop; of equals the one that was held.
+#[inline(always)]
+fn keep(held: (u64, usize), total: u64, stop: usize) -> (u64, usize) {
+    if total < held.0 {
+        (total, stop)
+    } else {
+        held
+    }
+}
+
+/// For two neighbouring stops their candidates, which are the same from t = 1 on.
+pub struct Pairs<A: Access>(A);
+
+impl<A: Access> Step for Pairs<A> {
+    #[inline(always)]
+    fn step(table: &[u32], n: usize, old: &Row, new: &mut Row, t: u32, early: bool, block: Range<usize>) {
+        if t == 0 {
+            return Columns::<A>::step(table, n, old, new, t, early, block);
+        }
+        for to in block.step_by(2) {
+            let first = ((to >> t) ^ 1) << t;
+            let mut one = (u64::MAX, 0);
+            let mut other = one;
+            for from in first..first + (1 << t) {
+                let before = A::get(old.totals, from);
+                one = keep(one, before + u64::from(A::get(table, from * n + to)), from);
+                other = keep(other, before + u64::from(A::get(table, from * n + to + 1)), from);
+            }
+            for (stop, held) in [(to, one), (to + 1, other)] {
+                A::put(new.totals, stop, held.0);
+                A::put(new.pivots, stop, if early { stop as u16 } else { A::get(old.pivots, held.1) });
             }
         }
     }

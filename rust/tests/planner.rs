@@ -4,7 +4,7 @@ use evidence::{
     cases::{any_set, any_table, planted, rounds, seeded, table},
     cubic,
     lent::{compare, Lent},
-    plain::{self, Checked, Columns, Rows, Slices, Unchecked},
+    plain::{self, Checked, Columns, Pairs, Rows, Slices, Unchecked},
     reading::{allowed, by_enumeration, by_whole_tables, every_set, order_of, preferred, total},
 };
 
@@ -19,7 +19,7 @@ fn k_0_to_3_against_enumeration() {
     for k in 0..=3 {
         let orders = every_order(k);
         assert_eq!(orders.len(), 1 << ((1 << k) - 1));
-        for _ in 0..20_000 * rounds() {
+        for _ in 0..60_000 * rounds() {
             let table = any_table(&mut random, k);
             compare(k as u16, &table, Lent::suiting(&mut random, k), || by_enumeration(&table, &orders));
         }
@@ -29,7 +29,7 @@ fn k_0_to_3_against_enumeration() {
 #[test]
 fn k_4_to_10_against_whole_tables() {
     let mut random = seeded("k = 4 to 10");
-    for (k, count) in [(4, 3000), (5, 800), (6, 150), (7, 40), (8, 16), (9, 5), (10, 2)] {
+    for (k, count) in [(4, 9000), (5, 2500), (6, 500), (7, 120), (8, 50), (9, 15), (10, 5)] {
         for _ in 0..count * rounds() {
             let table = any_table(&mut random, k);
             compare(k as u16, &table, Lent::suiting(&mut random, k), || by_whole_tables(k, &table));
@@ -86,9 +86,15 @@ fn plain_planners_of_the_benchmark() {
             let before = Lent::suiting(&mut random, k.into());
             let mut first = before.clone();
             let answer = first.plan(k, &table);
-            for planner in
-                [plain::plan::<Columns<Checked>>, plain::plan::<Rows<Checked>>, plain::plan::<Slices>, plain::plan::<Columns<Unchecked>>, plain::plan::<Rows<Unchecked>>]
-            {
+            for planner in [
+                plain::plan::<Columns<Checked>>,
+                plain::plan::<Rows<Checked>>,
+                plain::plan::<Slices>,
+                plain::plan::<Pairs<Checked>>,
+                plain::plan::<Columns<Unchecked>>,
+                plain::plan::<Rows<Unchecked>>,
+                plain::plan::<Pairs<Unchecked>>,
+            ] {
                 let mut lent = before.clone();
                 assert_eq!(planner(k, &table, &mut lent.order, &mut lent.totals, &mut lent.pivots), answer);
                 assert!(lent == first);

@@ -4,28 +4,38 @@
 
 use evidence::{
     cubic, ffi,
-    plain::{self, Checked, Columns, Rows, Slices, Unchecked},
+    plain::{self, Checked, Columns, Pairs, Rows, Slices, Unchecked},
     random::Random,
 };
-use std::{fmt::Write, fs, hint::black_box, path::Path, time::Instant};
+use std::{
+    fmt::Write,
+    fs,
+    hint::black_box,
+    ops::{Range, RangeInclusive},
+    path::Path,
+};
 
-const KS: std::ops::RangeInclusive<u16> = 4..=10;
+const KS: RangeInclusive<u16> = 4..=10;
 const CUBIC_UP_TO: u16 = 8;
 const SEED: u64 = 20_261_115;
 
 type Planner = fn(u16, &[u32], &mut [u16], &mut [u64], &mut [u16]) -> Result<u64, u16>;
 
 /// Who is measured, with what the table in the report calls it.
-const PLANNERS: [(&str, Planner); 6] = [
+const PLANNERS: [(&str, Planner); 8] = [
     ("proved", ffi::plan),
-    ("plain, paper's loops", plain::plan::<Columns<Checked>>),
+    ("plain, paper's order", plain::plan::<Columns<Checked>>),
     ("plain, along rows", plain::plan::<Rows<Checked>>),
     ("plain, rows by slices", plain::plan::<Slices>),
-    ("unchecked, paper's loops", plain::plan::<Columns<Unchecked>>),
+    ("plain, proved shape", plain::plan::<Pairs<Checked>>),
+    ("unchecked, paper's order", plain::plan::<Columns<Unchecked>>),
     ("unchecked, along rows", plain::plan::<Rows<Unchecked>>),
+    ("unchecked, proved shape", plain::plan::<Pairs<Unchecked>>),
 ];
-const PLAIN: std::ops::Range<usize> = 1..4;
-const UNCHECKED: std::ops::Range<usize> = 4..6;
+const PLAIN: Range<usize> = 1..4;
+const SAME_SHAPE: Range<usize> = 4..5;
+const UNCHECKED: Range<usize> = 5..7;
+const UNCHECKED_SHAPE: Range<usize> = 7..8;
 
 /// The best times of one k, in microseconds.
 struct Measured {
@@ -39,35 +49,61 @@ impl Measured {
     fn proved(&self) -> f64 {
         self.planners[0]
     }
-    fn best(&self, of: std::ops::Range<usize>) -> f64 {
+    fn best(&self, of: Range<usize>) -> f64 {
         self.planners[of].iter().copied().fold(f64::INFINITY, f64::min)
     }
 }
 
-/// One run's time in microseconds.
-fn timed<T>(run: impl FnOnce() -> T) -> f64 {
-    let start = Instant::now();
-    black_box(run());
-    start.elapsed().as_nanos() as f64 / 1000.0
+mod declared {
+    use std::ffi::{c_int, c_long};
+    #[repr(C)]
+    pub struct Time {
+        pub seconds: c_long,
+        pub nanoseconds: c_long,
+    }
+    // Linux on x86-64
+    pub const THREAD: c_int = 3;
+    extern "C" {
+        pub fn clock_gettime(clock: c_int, time: *mut Time) -> c_int;
+    }
+}
+
+/// The thread's processor time so far in microseconds: time in which another program has the processor does not count.
+fn now() -> f64 {
+    let mut time = declared::Time { seconds: 0, nanoseconds: 0 };
+    assert_eq!(unsafe { declared::clock_gettime(declared::THREAD, &mut time) }, 0);
+    time.seconds as f64 * 1e6 + time.nanoseconds as f64 / 1e3
+}
+
+/// The time of one run in microseconds, from `times` of them.
+fn timed(times: usize, mut run: impl FnMut()) -> f64 {
+    let start = now();
+    for _ in 0..times {
+        run();
+    }
+    (now() - start) / times as f64
 }
 
 fn measure(k: u16, table: &[u32]) -> Measured {
     let n = 1usize << k;
     let (mut order, mut totals, mut pivots) = (vec![0u16; n], vec![0u64; 2 * n], vec![0u16; 2 * n]);
-    let runs = (4_000_000 >> (2 * k)).clamp(40, 4000);
+    let times = ((1 << 16) >> (2 * k)).max(1);
+    let runs = (16_000_000 >> (2 * k.max(8))).clamp(80, 8000);
     let mut planners = [f64::INFINITY; PLANNERS.len()];
     let mut least = f64::INFINITY;
     let cubic = k <= CUBIC_UP_TO;
     for run in 0..runs {
         for (held, (_, planner)) in planners.iter_mut().zip(PLANNERS) {
-            order.fill(0);
-            totals.fill(0);
-            pivots.fill(0);
-            let time = timed(|| planner(black_box(k), black_box(table), &mut order, &mut totals, &mut pivots));
+            let time = timed(times, || {
+                order.fill(0);
+                totals.fill(0);
+                pivots.fill(0);
+                black_box(planner(black_box(k), black_box(table), &mut order, &mut totals, &mut pivots)).expect("the lengths suffice");
+            });
             *held = held.min(time);
         }
-        if cubic && run < runs / 10 {
-            least = least.min(timed(|| cubic::plan(k.into(), black_box(table))));
+        if cubic && run % 10 == 0 {
+            least = least.min(timed(times, || drop(black_box(cubic::plan(k.into(), black_box(table))))));
         }
     }
     Measured { k, runs, planners, cubic: cubic.then_some(least) }
@@ -84,29 +120,38 @@ fn processor() -> String {
     }
 }
 
-fn report(all: &[Measured]) -> String {
+/// A table of ratios.
+fn ratios(line: &mut impl FnMut(std::fmt::Arguments), all: &[Measured]) {
+    line(format_args!("| k | to plain Rust | to plain Rust, same shape | to unchecked Rust | to unchecked Rust, same shape | to the cubic method | to itself at k − 1 |"));
+    line(format_args!("|---|---|---|---|---|---|---|"));
+    for (place, of) in all.iter().enumerate() {
+        let ratio = |other: f64| format!("{:.2}", of.proved() / other);
+        let parts = [PLAIN, SAME_SHAPE, UNCHECKED, UNCHECKED_SHAPE].map(|others| ratio(of.best(others))).join(" | ");
+        let to_cubic = of.cubic.map_or("".into(), |time| format!("{:.3}", of.proved() / time));
+        let before = if of.k > 6 { ratio(all[place - 1].proved()) } else { "".into() };
+        line(format_args!("| {} | {parts} | {to_cubic} | {before} |", of.k));
+    }
+}
+
+fn report(random: &[Measured], equal: &[Measured]) -> String {
     let mut text = String::new();
     let mut line = |words: std::fmt::Arguments| writeln!(text, "{words}").expect("a string takes all");
     line(format_args!("# Benchmark\n"));
     line(format_args!("Written by `make bench`. Processor: {}. One table of times from a fixed seed for each k, the same for all; one process and one", processor()));
-    line(format_args!("thread; lent buffers cleared before each run; runs interleaved; the best of many. Rust and the proved library are both built for"));
-    line(format_args!("release and for x86-64 without extensions. Times in microseconds.\n"));
+    line(format_args!("thread; lent buffers cleared before each run; runs interleaved; the best of many, in the thread's processor time. Rust and the proved"));
+    line(format_args!("library are both built for release and for x86-64 without extensions. Times in microseconds.\n"));
     line(format_args!("## The planner\n"));
     line(format_args!("| k | runs | {} | cubic method |", PLANNERS.map(|(name, _)| name).join(" | ")));
     line(format_args!("|---|---|{}", "---|".repeat(PLANNERS.len() + 1)));
-    for of in all {
+    for of in random {
         let times = of.planners.map(|time| format!("{time:.1}")).join(" | ");
         line(format_args!("| {} | {} | {times} | {} |", of.k, of.runs, of.cubic.map_or("".into(), |time| format!("{time:.0}"))));
     }
-    line(format_args!("\nThe proved planner's time as a part of each other's. Of plain and of unchecked Rust the better loop order counts.\n"));
-    line(format_args!("| k | to plain Rust | to unchecked Rust | to the cubic method | to itself at k − 1 |"));
-    line(format_args!("|---|---|---|---|---|"));
-    for (place, of) in all.iter().enumerate() {
-        let ratio = |other: f64| format!("{:.2}", of.proved() / other);
-        let to_cubic = of.cubic.map_or("".into(), |time| format!("{:.4}", of.proved() / time));
-        let before = if of.k > 6 { ratio(all[place - 1].proved()) } else { "".into() };
-        line(format_args!("| {} | {} | {} | {to_cubic} | {before} |", of.k, ratio(of.best(PLAIN)), ratio(of.best(UNCHECKED))));
-    }
+    line(format_args!("\nThe proved planner's time as a part of each other's. Of plain and of unchecked Rust the better loop order counts: the paper's, or along"));
+    line(format_args!("the table's rows. 'Same shape' is the paper's order with two neighbouring stops at a time, as the proved planner has it.\n"));
+    ratios(&mut line, random);
+    line(format_args!("\nThe same for tables whose entries are all equal:\n"));
+    ratios(&mut line, equal);
     line(format_args!("\nA cost that grows as n² log n gives 4 (k / (k − 1)) in the last column: 4.7 at k = 7 and 4.4 at k = 10.\n"));
     line(format_args!("![time by k](benchmark.svg)"));
     text
@@ -150,13 +195,15 @@ fn plot(all: &[Measured]) -> String {
 
 fn main() {
     let mut random = Random::new(SEED);
-    let all: Vec<Measured> = KS
-        .map(|k| {
-            let table: Vec<u32> = (0..1usize << (2 * k)).map(|_| random.below(4_000_001) as u32).collect();
+    let mut measured = |range: u64| -> Vec<Measured> {
+        KS.map(|k| {
+            let table: Vec<u32> = (0..1usize << (2 * k)).map(|_| random.below(range) as u32).collect();
             measure(k, &table)
         })
-        .collect();
-    let text = report(&all);
+        .collect()
+    };
+    let all = measured(4_000_001);
+    let text = report(&all, &measured(1));
     print!("{text}");
     let docs = Path::new(env!("CARGO_MANIFEST_DIR")).join("../docs");
     fs::write(docs.join("BENCHMARK.md"), text).expect("docs/BENCHMARK.md");
