@@ -57,28 +57,16 @@ pub fn weigh(held: Choice, total: u64, time: u64, stop: usize) -> Choice
     keep(held, total + time, stop)
 }
 
-// The cheapest way to the stop `to` from the r stops that start at `first`, by the row of totals at `old`.
-pub fn cheapest(
-    table: &[u32],
-    n: usize,
-    totals: &[u64],
-    old: usize,
-    first: usize,
-    r: usize,
-    to: usize,
-) -> Choice
-    requires { ⌜ (first + r ≤ n) × (to < n) × (n ≤ 1024) × (old + n ≤ length (now totals)) × (length (now table) ≡ n * n) ⌝ }
-    requires { ⌜ ((j : ℕ) → first ≤ j → j < first + r → getD (now totals) (old + j) 0 ≤ unreached) ⌝ }
-    ensures { λ c. ⌜ (c .total, c .stop) ≡ leastFrom (through n (now (table .entry)) (now (totals .entry)) old to) first r ⌝ }
+// The way to the stop `to` from the only stop that may come before it, by the row of totals at `old`.
+pub fn only(table: &[u32], n: usize, totals: &[u64], old: usize, from: usize, to: usize) -> Choice
+    requires { ⌜ (from < n) × (to < n) × (n ≤ 1024) × (old + n ≤ length (now totals)) × (length (now table) ≡ n * n) × (getD (now totals) (old + from) 0 ≤ unreached) ⌝ }
+    ensures { λ c. ⌜ (c .total, c .stop) ≡ leastFrom (through n (now (table .entry)) (now (totals .entry)) old to) from 1 ⌝ }
 {
-    let mut held = Choice {
+    let none = Choice {
         total: UNREACHED,
         stop: 0,
     };
-    for j in first..first + r {
-        held = weigh(held, totals[old + j], time_of(table, n, j, to), j);
-    }
-    held
+    weigh(none, totals[old + from], time_of(table, n, from, to), from)
 }
 
 // Weighs one candidate for the stops `to` and `to` + 1.
@@ -92,7 +80,7 @@ fn weigh_two(held: Two, total: u64, table: &[u32], n: usize, from: usize, to: us
     Two { one, other }
 }
 
-// The cheapest ways to the stops `to` and `to` + 1 from the same r stops, in one pass over them.
+// The cheapest ways to the stops `to` and `to` + 1 from the r stops that start at `first`, by the row of totals at `old`.
 pub fn cheapest_two(
     table: &[u32],
     n: usize,

@@ -2,8 +2,8 @@
 
 use crate::choice::Choice;
 use crate::choice::Two;
-use crate::choice::cheapest;
 use crate::choice::cheapest_two;
+use crate::choice::only;
 use crate::choice::time_of;
 ghost use mathlib.Core.Path.{_≡_};
 ghost use mathlib.Core.Bool.{true, cond};
@@ -114,8 +114,8 @@ fn two_cheapest(table: &[u32], n: usize, totals: &[u64], old: usize, t: u32, i: 
     ensures { λ c. ⌜ (c .other .total, c .other .stop) ≡ cheapestTo n (now (table .entry)) (now (totals .entry)) old t (i + 1) ⌝ }
 {
     if t == 0 {
-        let one = cheapest(table, n, totals, old, beside(i, 0), 1, i);
-        let other = cheapest(table, n, totals, old, beside(i + 1, 0), 1, i + 1);
+        let one = only(table, n, totals, old, beside(i, 0), i);
+        let other = only(table, n, totals, old, beside(i + 1, 0), i + 1);
         return Two { one, other };
     }
     cheapest_two(table, n, totals, old, beside(i, t), two_to(t), i)

@@ -1,11 +1,9 @@
 -- `planner::choice::cheapest_two` meets its contract. The loop's invariant: what is held for each stop is the least of the candidates before j.
-use mathlib.Core.Path.{_≡_, sym, _∙_}
-use mathlib.Core.Bool.{true}
+use mathlib.Core.Path.{_≡_, _∙_}
 use Prim.Native.Nat.{ℕ, _+_, _-_, _≤_}
 use native.Mathlib.Omega.{arith}
-use Rattle.walks.specs.Rows.{turn}
 use Rattle.planner.specs.Row.{through, leastFrom}
-use Rattle.planner.proofs.Candidates.{leastFrom-next}
+use Rattle.planner.proofs.Candidates.{leastFrom-more}
 use Rattle.planner.proofs.choice.cheapest_two.Statement.{statement}
 use Rattle.planner.proofs.choice.cheapest_two.Tie as tie
 
@@ -48,14 +46,6 @@ add-j c = omega arith
 loop-less : tie.Need-loop-less Inv-loop μ-loop
 loop-less c = omega arith
 
--- one candidate more, in the invariant's words
-more : (x : ℕ → ℕ) (first j : ℕ) (held : ℕ × ℕ) → first ≤ j → held ≡ leastFrom x first (j - first) → turn true (x j) j held ≡ leastFrom x first (j + 1 - first)
-more x first j held b e =
-    let d : ℕ = j - first in
-    let s : j + 1 - first ≡ d + 1 = omega arith in
-    let f : first + d ≡ j = omega arith in
-    rw (s, e) (sym (leastFrom-next x first d ∙ rw f))
-
 loop-again : tie.Need-loop-again Inv-loop μ-loop
 loop-again c =
     let a = c .before .before .before .before .before .before .args in
@@ -65,8 +55,8 @@ loop-again c =
       omega arith,
       omega arith,
       omega arith,
-      c .weigh-two .ensures .0 ∙ more (x (a .to)) (a .first) j _ (inv .0) (inv .3),
-      c .weigh-two .ensures .1 ∙ more (x (a .to + 1)) (a .first) j _ (inv .0) (inv .4),
+      c .weigh-two .ensures .0 ∙ leastFrom-more (x (a .to)) (a .first) j _ (inv .0) (inv .3),
+      c .weigh-two .ensures .1 ∙ leastFrom-more (x (a .to + 1)) (a .first) j _ (inv .0) (inv .4),
     )
 
 returns : tie.Need-returns Inv-loop μ-loop

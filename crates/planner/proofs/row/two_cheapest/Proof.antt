@@ -12,14 +12,14 @@ use Rattle.planner.proofs.row.two_cheapest.Tie as tie
 beside-requires : tie.Need-beside-requires
 beside-requires c κs = (omega (arith, sizes-small (c .before .before .before .pre .0)), omega arith)
 
-cheapest-requires : tie.Need-cheapest-requires
-cheapest-requires c κs =
+only-requires : tie.Need-only-requires
+only-requires c κs =
     let q = c .before .before .before .before .pre in
     let z = c .before .if1 .taken in
     let b = rw z at (q .1 .0 .4) in
     let h = rw z at (q .1 .1 .0) in
     let e = c .beside .ensures in
-    ((omega arith, omega arith, sizes-small (q .0), omega (arith, q .0 .rows), q .0 .square), λ j x y. h .below j (omega arith) (omega arith))
+    (omega arith, omega arith, sizes-small (q .0), omega (arith, q .0 .rows), q .0 .square, h .below (c .beside .result) (omega arith) (omega arith))
 
 add-beside : tie.Need-add-beside
 add-beside c = search needs
@@ -27,22 +27,22 @@ add-beside c = search needs
 beside-requires-2 : tie.Need-beside-requires-2
 beside-requires-2 c κs = (omega (arith, sizes-small (c .before .before .before .before .before .pre .0)), omega arith)
 
-add-cheapest : tie.Need-add-cheapest
-add-cheapest c = search needs
+add-only : tie.Need-add-only
+add-only c = search needs
 
-cheapest-requires-2 : tie.Need-cheapest-requires-2
-cheapest-requires-2 c κs =
+only-requires-2 : tie.Need-only-requires-2
+only-requires-2 c κs =
     let q = c .before .before .before .before .before .before .pre in
     let z = c .before .before .before .if1 .taken in
     let b = rw z at (q .1 .0 .5) in
     let h = rw z at (q .1 .1 .1) in
     let e = c .beside2 .ensures in
-    ((omega arith, omega arith, sizes-small (q .0), omega (arith, q .0 .rows), q .0 .square), λ j x y. h .below j (omega arith) (omega arith))
+    (omega arith, omega arith, sizes-small (q .0), omega (arith, q .0 .rows), q .0 .square, h .below (c .beside2 .result) (omega arith) (omega arith))
 
 returns : tie.Need-returns
 returns c =
     let z = c .before .before .before .before .if1 .taken in
-    (rw (z, ← (c .before .before .before .beside .ensures)) (c .before .before .cheapest .ensures), rw (z, ← (c .before .beside2 .ensures)) (c .cheapest2 .ensures))
+    (rw (z, ← (c .before .before .before .beside .ensures)) (c .before .before .only .ensures), rw (z, ← (c .before .beside2 .ensures)) (c .only2 .ensures))
 
 beside-requires-3 : tie.Need-beside-requires-3
 beside-requires-3 c κs = (omega (arith, sizes-small (c .before .before .before .pre .0)), omega arith)
@@ -71,11 +71,11 @@ two-cheapest-spec =
     tie.close
     (tie.spec
     beside-requires
-    cheapest-requires
+    only-requires
     add-beside
     beside-requires-2
-    add-cheapest
-    cheapest-requires-2
+    add-only
+    only-requires-2
     returns
     beside-requires-3
     two-to-requires
