@@ -3,7 +3,8 @@
 # With the word `valgrind` it runs a smaller number under valgrind instead.
 set -euo pipefail
 cd "$(dirname "$0")/.."
-rt staticlib ffi >/dev/null
+mkdir -p target
+rt staticlib ffi >target/rust.log 2>&1 || { cat target/rust.log; exit 1; }
 cd rust
 if [ "${1:-}" = valgrind ]; then
     cargo build --release --offline --quiet --bin sample
