@@ -13,7 +13,7 @@ use borrow.Author.Tests.{eqb-true, eqb-false, eq-eqb, ne-eqb}
 use Rattle.base.proofs.Size.{pow-le-1024}
 use Rattle.tree.specs.Neighbour.{trail, mayFollow}
 use Rattle.tree.specs.Block.{besideOf}
-use Rattle.tree.proofs.Beside.{Beside, parity, trail-count}
+use Rattle.tree.proofs.Beside.{Beside, parity, shr-suc, trail-count}
 use Rattle.tree.proofs.Block.{block-of, block-only, beside-block, beside-in-block, mayFollow-block, trail-inside}
 use Rattle.planner.specs.Row.{rowOf, Sizes, Aligned, Apart, Closed, Place}
 
@@ -54,6 +54,12 @@ closed {base = base} {m = m} t a l = record { low = low; high = high }
 
     high : (i : ℕ) → base ≤ i → i < base + 2 ^ m → besideOf i t + 2 ^ t ≤ base + 2 ^ m
     high i x y = omega (arith, pow-pos t, of-block a (besideOf i t + (2 ^ t - 1)) (near i x y (2 ^ t - 1) (omega (arith, pow-pos t))) .1)
+
+-- an even stop and the next have the same candidates, but where each is the other's only one
+pub beside-next : (i t : ℕ) → i % 2 ≡ 0 → 0 < t → besideOf (i + 1) t ≡ besideOf i t
+unfolding besideOf
+beside-next i zero e h = absurd (omega arith)
+beside-next i (suc t) e h = let half : (i + 1) / 2 ≡ i / 2 = omega arith in rw (shr-suc (i + 1) t, shr-suc i t, half)
 
 -- a row starts at 0 or at n
 pub rowOf-cases : (n p : ℕ) → (rowOf n p ≡ 0) ⊎ (rowOf n p ≡ n)

@@ -2,7 +2,7 @@
 use mathlib.Core.Path.{_≡_, refl, sym, ap, _∙_}
 use mathlib.Core.Bool.{Bool, true, false, cond}
 use mathlib.Core.List.{List}
-use Prim.Native.Nat.{ℕ, zero, suc, _+_, _^_, _≤_, _<_}
+use Prim.Native.Nat.{ℕ, zero, suc, _+_, _-_, _^_, _≤_, _<_}
 use native.Mathlib.Nat.{add-zero, add-suc}
 use native.Mathlib.Numerals.{add-one}
 use native.Mathlib.Omega.{arith}
@@ -18,6 +18,20 @@ use Rattle.planner.specs.Row.{unreached, leastFrom, through, cheapestTo}
 pub leastFrom-next : (x : ℕ → ℕ) (first d : ℕ) → leastFrom x first (d + 1) ≡ turn true (x (first + d)) (first + d) (leastFrom x first d)
 unfolding leastFrom
 leastFrom-next x first d = rw add-one
+
+-- the same, where the candidate is j
+pub leastFrom-more : (x : ℕ → ℕ) (first j : ℕ) (held : ℕ × ℕ) → first ≤ j → held ≡ leastFrom x first (j - first)
+    → turn true (x j) j held ≡ leastFrom x first (j + 1 - first)
+leastFrom-more x first j held b e =
+    let d : ℕ = j - first in
+    let s : j + 1 - first ≡ d + 1 = omega arith in
+    let f : first + d ≡ j = omega arith in
+    rw (s, e) (sym (leastFrom-next x first d ∙ rw f))
+
+-- one candidate alone
+pub leastFrom-one : (x : ℕ → ℕ) (first : ℕ) → turn true (x first) first (unreached, 0) ≡ leastFrom x first 1
+unfolding leastFrom
+leastFrom-one x first = rw add-zero
 
 -- the block's candidates, one after another
 pub leastFrom-loop : (x : ℕ → ℕ) (a : ℕ → Bool) (first d : ℕ) → ((j : ℕ) → j < first → a j ≡ false)

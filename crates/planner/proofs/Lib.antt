@@ -9,3 +9,4 @@ pub mod Halving
 pub mod Smallest
 pub mod Ends
 pub mod Judged
+pub mod Made

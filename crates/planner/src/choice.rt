@@ -14,6 +14,12 @@ pub struct Choice {
     pub stop: usize,
 }
 
+// What is held for two neighbouring stops.
+pub struct Two {
+    pub one: Choice,
+    pub other: Choice,
+}
+
 // A total above that of every order: nothing is held yet.
 pub const UNREACHED: u64 = 9_223_372_036_854_775_808;
 
@@ -51,8 +57,31 @@ pub fn weigh(held: Choice, total: u64, time: u64, stop: usize) -> Choice
     keep(held, total + time, stop)
 }
 
-// The cheapest way to the stop `to` from the r stops that start at `first`, by the row of totals at `old`.
-pub fn cheapest(
+// The way to the stop `to` from the only stop that may come before it, by the row of totals at `old`.
+pub fn only(table: &[u32], n: usize, totals: &[u64], old: usize, from: usize, to: usize) -> Choice
+    requires { ⌜ (from < n) × (to < n) × (n ≤ 1024) × (old + n ≤ length (now totals)) × (length (now table) ≡ n * n) × (getD (now totals) (old + from) 0 ≤ unreached) ⌝ }
+    ensures { λ c. ⌜ (c .total, c .stop) ≡ leastFrom (through n (now (table .entry)) (now (totals .entry)) old to) from 1 ⌝ }
+{
+    let none = Choice {
+        total: UNREACHED,
+        stop: 0,
+    };
+    weigh(none, totals[old + from], time_of(table, n, from, to), from)
+}
+
+// Weighs one candidate for the stops `to` and `to` + 1.
+fn weigh_two(held: Two, total: u64, table: &[u32], n: usize, from: usize, to: usize) -> Two
+    requires { ⌜ (total ≤ unreached) × (from < n) × (to + 1 < n) × (n ≤ 1024) × (length (now table) ≡ n * n) ⌝ }
+    ensures { λ c. ⌜ (c .one .total, c .one .stop) ≡ turn true (total + entry n (now (table .entry)) from to) from (held .one .total, held .one .stop) ⌝ }
+    ensures { λ c. ⌜ (c .other .total, c .other .stop) ≡ turn true (total + entry n (now (table .entry)) from (to + 1)) from (held .other .total, held .other .stop) ⌝ }
+{
+    let one = weigh(held.one, total, time_of(table, n, from, to), from);
+    let other = weigh(held.other, total, time_of(table, n, from, to + 1), from);
+    Two { one, other }
+}
+
+// The cheapest ways to the stops `to` and `to` + 1 from the r stops that start at `first`, by the row of totals at `old`.
+pub fn cheapest_two(
     table: &[u32],
     n: usize,
     totals: &[u64],
@@ -60,17 +89,22 @@ pub fn cheapest(
     first: usize,
     r: usize,
     to: usize,
-) -> Choice
-    requires { ⌜ (first + r ≤ n) × (to < n) × (n ≤ 1024) × (old + n ≤ length (now totals)) × (length (now table) ≡ n * n) ⌝ }
+) -> Two
+    requires { ⌜ (first + r ≤ n) × (to + 1 < n) × (n ≤ 1024) × (old + n ≤ length (now totals)) × (length (now table) ≡ n * n) ⌝ }
     requires { ⌜ ((j : ℕ) → first ≤ j → j < first + r → getD (now totals) (old + j) 0 ≤ unreached) ⌝ }
-    ensures { λ c. ⌜ (c .total, c .stop) ≡ leastFrom (through n (now (table .entry)) (now (totals .entry)) old to) first r ⌝ }
+    ensures { λ c. ⌜ (c .one .total, c .one .stop) ≡ leastFrom (through n (now (table .entry)) (now (totals .entry)) old to) first r ⌝ }
+    ensures { λ c. ⌜ (c .other .total, c .other .stop) ≡ leastFrom (through n (now (table .entry)) (now (totals .entry)) old (to + 1)) first r ⌝ }
 {
-    let mut held = Choice {
+    let none = Choice {
         total: UNREACHED,
         stop: 0,
     };
+    let mut held = Two {
+        one: none,
+        other: none,
+    };
     for j in first..first + r {
-        held = weigh(held, totals[old + j], time_of(table, n, j, to), j);
+        held = weigh_two(held, totals[old + j], table, n, j, to);
     }
     held
 }

@@ -1,14 +1,17 @@
 // The two rows of best totals and of pivots: the first row of a block of places, and each next row from the one before.
 
-use crate::choice::cheapest;
+use crate::choice::Choice;
+use crate::choice::Two;
+use crate::choice::cheapest_two;
+use crate::choice::only;
 use crate::choice::time_of;
 ghost use mathlib.Core.Path.{_≡_};
 ghost use mathlib.Core.Bool.{true, cond};
 ghost use mathlib.Core.List.{List};
-ghost use Prim.Native.Nat.{ℕ, _+_, _-_, _*_, _^_, _≤_, _<_};
+ghost use Prim.Native.Nat.{ℕ, _+_, _-_, _*_, _%_, _^_, _≤_, _<_};
 ghost use lib.ListN.{length, getD, set, replicate};
 ghost use Rattle.tree.specs.Block.{besideOf};
-ghost use Rattle.planner.specs.Row.{startTime, mayStart, blockGraph, rowOf, nextTotal, nextPivot, Row, Sizes, Stops, Aligned, Held, Apart, Closed, Place};
+ghost use Rattle.planner.specs.Row.{startTime, mayStart, blockGraph, rowOf, cheapestTo, nextTotal, nextPivot, Row, Sizes, Stops, Aligned, Held, Apart, Closed, Place};
 
 // A stop's number as an index.
 pub fn index(stop: u16) -> usize
@@ -102,8 +105,45 @@ fn pivot_of(pivots: &[u16], early: bool, at: usize, i: usize) -> u16
     if early { i as u16 } else { pivots[at] }
 }
 
-// Stop i in the row at `new`, from the row at `old`: the cheapest of its 2^t candidates.
+// The cheapest ways to the stops i and i + 1, i even, from their 2^t candidates each: the same ones but where t is 0.
+fn two_cheapest(table: &[u32], n: usize, totals: &[u64], old: usize, t: u32, i: usize) -> Two
+    requires { ⌜ Sizes n (length (now table)) n (length (now totals)) (n + n) ⌝ }
+    requires { ⌜ (old ≤ n) × (i % 2 ≡ 0) × (i + 1 < n) × (t < 10) × (besideOf i t + 2 ^ t ≤ n) × (besideOf (i + 1) t + 2 ^ t ≤ n) ⌝ }
+    requires { ⌜ Held old (besideOf i t) (2 ^ t) (now totals) × Held old (besideOf (i + 1) t) (2 ^ t) (now totals) ⌝ }
+    ensures { λ c. ⌜ (c .one .total, c .one .stop) ≡ cheapestTo n (now (table .entry)) (now (totals .entry)) old t i ⌝ }
+    ensures { λ c. ⌜ (c .other .total, c .other .stop) ≡ cheapestTo n (now (table .entry)) (now (totals .entry)) old t (i + 1) ⌝ }
+{
+    if t == 0 {
+        let one = only(table, n, totals, old, beside(i, 0), i);
+        let other = only(table, n, totals, old, beside(i + 1, 0), i + 1);
+        return Two { one, other };
+    }
+    cheapest_two(table, n, totals, old, beside(i, t), two_to(t), i)
+}
+
+// Stop i in the row at `new`: what was chosen for it from the row at `old`.
 fn settle(
+    n: usize,
+    totals: &mut [u64],
+    pivots: &mut [u16],
+    old: usize,
+    new: usize,
+    early: bool,
+    i: usize,
+    held: Choice,
+)
+    requires { ⌜ (n ≤ 1024) × (length (now totals) ≡ n + n) × (length (now pivots) ≡ n + n) × (old ≤ n) × (new ≤ n) × (i < n) × (held .stop < n) ⌝ }
+    ensures { λ _. ⌜ now (totals .exit) ≡ set (now (totals .entry)) (new + i) (held .total) ⌝ }
+    ensures { λ _. ⌜ now (pivots .exit) ≡ set (now (pivots .entry)) (new + i) (cond early i (getD (now (pivots .entry)) (old + held .stop) 0)) ⌝ }
+{
+    let from = held.stop;
+    let pivot = pivot_of(pivots, early, old + from, i);
+    totals[new + i] = held.total;
+    pivots[new + i] = pivot;
+}
+
+// The stops i and i + 1, i even, in the row at `new`, from the row at `old`.
+fn settle_two(
     table: &[u32],
     n: usize,
     totals: &mut [u64],
@@ -115,16 +155,14 @@ fn settle(
     i: usize,
 )
     requires { ⌜ Sizes n (length (now table)) n (length (now totals)) (length (now pivots)) ⌝ }
-    requires { ⌜ (old ≤ n) × (new ≤ n) × (i < n) × (t < 10) × (besideOf i t + 2 ^ t ≤ n) ⌝ }
-    requires { ⌜ Held old (besideOf i t) (2 ^ t) (now totals) ⌝ }
-    ensures { λ _. ⌜ now (totals .exit) ≡ set (now (totals .entry)) (new + i) (nextTotal n (now (table .entry)) (now (totals .entry)) old t i) ⌝ }
-    ensures { λ _. ⌜ now (pivots .exit) ≡ set (now (pivots .entry)) (new + i) (nextPivot n (now (table .entry)) (now (totals .entry)) (now (pivots .entry)) old t early i) ⌝ }
+    requires { ⌜ Apart n old new × (i % 2 ≡ 0) × (i + 1 < n) × (t < 10) × (besideOf i t + 2 ^ t ≤ n) × (besideOf (i + 1) t + 2 ^ t ≤ n) ⌝ }
+    requires { ⌜ Held old (besideOf i t) (2 ^ t) (now totals) × Held old (besideOf (i + 1) t) (2 ^ t) (now totals) ⌝ }
+    ensures { λ _. ⌜ now (totals .exit) ≡ set (set (now (totals .entry)) (new + i) (nextTotal n (now (table .entry)) (now (totals .entry)) old t i)) (new + (i + 1)) (nextTotal n (now (table .entry)) (now (totals .entry)) old t (i + 1)) ⌝ }
+    ensures { λ _. ⌜ now (pivots .exit) ≡ set (set (now (pivots .entry)) (new + i) (nextPivot n (now (table .entry)) (now (totals .entry)) (now (pivots .entry)) old t early i)) (new + (i + 1)) (nextPivot n (now (table .entry)) (now (totals .entry)) (now (pivots .entry)) old t early (i + 1)) ⌝ }
 {
-    let held = cheapest(table, n, totals, old, beside(i, t), two_to(t), i);
-    let from = held.stop;
-    let pivot = pivot_of(pivots, early, old + from, i);
-    totals[new + i] = held.total;
-    pivots[new + i] = pivot;
+    let held = two_cheapest(table, n, totals, old, t, i);
+    settle(n, totals, pivots, old, new, early, i, held.one);
+    settle(n, totals, pivots, old, new, early, i + 1, held.other);
 }
 
 // The row at `new` from the row at `old`, for the stops of a block that holds the candidates of each.
@@ -141,14 +179,16 @@ fn next_row(
     size: usize,
 )
     requires { ⌜ Sizes n (length (now table)) n (length (now totals)) (length (now pivots)) ⌝ }
-    requires { ⌜ Apart n old new × (t < 10) × (base + size ≤ n) ⌝ }
+    requires { ⌜ Apart n old new × (t < 10) × (base + size ≤ n) × (base % 2 ≡ 0) × (size % 2 ≡ 0) ⌝ }
     requires { ⌜ Closed t base size ⌝ }
     requires { ⌜ Held old base size (now totals) ⌝ }
     ensures { λ _. ⌜ ((i : ℕ) → base ≤ i → i < base + size → getD (now (totals .exit)) (new + i) 0 ≡ nextTotal n (now (table .entry)) (now (totals .entry)) old t i) ⌝ }
     ensures { λ _. ⌜ ((i : ℕ) → base ≤ i → i < base + size → getD (now (pivots .exit)) (new + i) 0 ≡ nextPivot n (now (table .entry)) (now (totals .entry)) (now (pivots .entry)) old t early i) ⌝ }
 {
-    for i in base..base + size {
-        settle(table, n, totals, pivots, old, new, t, early, i);
+    let mut i = base;
+    while i < base + size {
+        settle_two(table, n, totals, pivots, old, new, t, early, i);
+        i += 2;
     }
 }
 

@@ -9,7 +9,7 @@ use Rattle.walks.specs.Rows.{line, Codes}
 use Rattle.tree.specs.Neighbour.{trail}
 use Rattle.planner.specs.Row.{unreached, nextTotal, nextPivot, blockGraph, rowOf, Closed}
 use Rattle.planner.proofs.Table.{sizes-small}
-use Rattle.planner.proofs.Blocks.{aligned-small, place-trail, place-count, closed, rowOf-cases, rows-apart}
+use Rattle.planner.proofs.Blocks.{aligned-small, aligned-even, pow-half, place-trail, place-count, closed, rowOf-cases, rows-apart}
 use Rattle.planner.proofs.Rows.{next-holds}
 use borrow.Author.Needs.{needs}
 use Rattle.planner.proofs.row.next_place.Statement.{statement}
@@ -29,10 +29,11 @@ next-row-requires c κs =
     let e = c .before .before .row-of .ensures in
     let count = place-count q (sizes-small s) in
     let small = place-trail q in
+    let many : 0 < q .m = omega (arith, small) in
     let fits : Closed (trail (a .p)) (a .base) (a .size) = rw (q .width) (closed (trail (a .p)) (q .stops) small) in (
       s,
       (
-        (rw e (rows-apart (a .n) (a .p)), rw count (omega (arith, aligned-small (q .stops) (sizes-small s))), omega (arith, q .width, q .stops .inside)),
+        (rw e (rows-apart (a .n) (a .p)), rw count (omega (arith, aligned-small (q .stops) (sizes-small s))), omega (arith, q .width, q .stops .inside), aligned-even (q .stops) many, omega (arith, q .width, pow-half (q .m) many)),
         (rw count fits, rw e (c .before .before .before .before .before .before .pre .1 .1)),
       ),
     )

@@ -1,49 +1,48 @@
--- `planner::row::next_row` meets its contract. The loop's invariant: the row at `old` is as it was, and the stops before i have theirs in the row at `new`.
-use mathlib.Core.Path.{_≡_, refl, sym, ap, _∙_}
-use mathlib.Core.Bool.{Bool, cond}
-use mathlib.Core.List.{List}
-use Prim.Native.Nat.{ℕ, _+_, _-_, _^_, _≤_, _<_}
+-- `planner::row::next_row` meets its contract. The loop's invariant: the row at `old` is as it was, and the stops before i, an even number,
+-- have theirs in the row at `new`.
+use mathlib.Core.Path.{_≡_}
+use Prim.Native.Nat.{ℕ, _+_, _-_, _%_, _^_, _≤_, _<_}
 use native.Mathlib.Omega.{arith}
-use lib.ListN.{length, getD, set, length-set}
-use lib.Seq.{getD-set-other}
 use Rattle.tree.specs.Block.{besideOf}
-use Rattle.planner.specs.Row.{through, cheapestTo, nextTotal, nextPivot, Sizes}
-use Rattle.planner.proofs.Table.{sizes-small, sizes-pos, sizes-with}
-use Rattle.planner.proofs.Candidates.{cheapest-same, leastFrom-lt}
-use Rattle.planner.proofs.Stores.{store-more}
+use Rattle.planner.specs.Row.{Held}
+use Rattle.planner.proofs.Table.{sizes-small, sizes-with}
+use Rattle.planner.proofs.Made.{Made, made-none, made-two}
 use Rattle.planner.proofs.row.next_row.Statement.{statement}
 use Rattle.planner.proofs.row.next_row.Tie as tie
 
 abbrev Inv-loop : tie.InvT-loop
-Inv-loop table n totals₀ pivots₀ old new t early base size i₀ i-end totals pivots i =
-    (base ≤ i) × (i ≤ base + size) × (i-end ≡ base + size) × (length totals ≡ length totals₀) × (length pivots ≡ length pivots₀)
-    × ((j : ℕ) → j < n → getD totals (old + j) 0 ≡ getD totals₀ (old + j) 0)
-    × ((j : ℕ) → j < n → getD pivots (old + j) 0 ≡ getD pivots₀ (old + j) 0)
-    × ((j : ℕ) → base ≤ j → j < i → getD totals (new + j) 0 ≡ nextTotal n table totals₀ old t j)
-    × ((j : ℕ) → base ≤ j → j < i → getD pivots (new + j) 0 ≡ nextPivot n table totals₀ pivots₀ old t early j)
+Inv-loop table n totals₀ pivots₀ old new t early base size i₀ totals pivots i =
+    (base ≤ i) × (i ≤ base + size) × (i % 2 ≡ 0) × Made n table totals₀ pivots₀ old new t early base i totals pivots
 
 abbrev μ-loop : tie.MeasureT-loop
-μ-loop table n totals₀ pivots₀ old new t early base size i₀ i-end totals pivots i = base + size - i
-
-add-i-end : tie.Need-add-i-end Inv-loop μ-loop
-add-i-end c = omega (arith, sizes-small (c .before .before .before .pre .0))
+μ-loop table n totals₀ pivots₀ old new t early base size i₀ totals pivots i = base + size - i
 
 loop-holds : tie.Need-loop-holds Inv-loop μ-loop
-loop-holds c = (omega arith, omega arith, omega arith, refl, refl, λ j x. refl, λ j x. refl, λ j x y. absurd (omega arith), λ j x y. absurd (omega arith))
+loop-holds c =
+    let a = c .before .before .before .args in
+    (omega arith, omega arith, omega arith, made-none (a .n) (a .table .now) (a .totals .now) (a .pivots .now) (a .old) (a .new) (a .t) (a .early) (a .base))
 
-settle-requires : tie.Need-settle-requires Inv-loop μ-loop
-settle-requires c κs =
+add-loop : tie.Need-add-loop Inv-loop μ-loop
+add-loop c = omega (arith, sizes-small (c .before .before .before .before .pre .0))
+
+-- the candidates of a stop of the block, on the way
+near : (c : tie.After-settle-two-arg2 Inv-loop μ-loop) (i : ℕ) → c .before .before .before .before .before .before .before .args .base ≤ i → i < c .before .before .before .before .before .before .before .args .base + c .before .before .before .before .before .before .before .args .size
+    → (besideOf i (c .before .before .before .before .before .before .before .args .t) + 2 ^ c .before .before .before .before .before .before .before .args .t ≤ c .before .before .before .before .before .before .before .args .n) × Held (c .before .before .before .before .before .before .before .args .old) (besideOf i (c .before .before .before .before .before .before .before .args .t)) (2 ^ c .before .before .before .before .before .before .before .args .t) (c .before .before .before .loop .totals)
+near c i x y =
+    let q = c .before .before .before .before .before .before .before .pre in
+    let low = q .1 .1 .0 .low i x y in
+    let high = q .1 .1 .0 .high i x y in
+    (omega arith, record { below = λ j u v. rw (c .before .before .before .loop .inv .3 .totals-kept j (omega arith)) (q .1 .1 .1 .below j (omega arith) (omega arith)) })
+
+settle-two-requires : tie.Need-settle-two-requires Inv-loop μ-loop
+settle-two-requires c κs =
     let q = c .before .before .before .before .before .before .before .pre in
     let inv = c .before .before .before .loop .inv in
     let i : ℕ = c .before .before .before .loop .i in
-    let low = q .1 .1 .0 .low i (omega arith) (omega arith) in
-    let high = q .1 .1 .0 .high i (omega arith) (omega arith) in (
-      sizes-with (q .0) (inv .3) (inv .4),
-      (
-        (q .1 .0 .0 .first, q .1 .0 .0 .second, omega arith, omega arith, omega arith),
-        record { below = λ j x y. rw (inv .5 j (omega arith)) (q .1 .1 .1 .below j (omega arith) (omega arith)) },
-      ),
-    )
+    let made = inv .3 in
+    let here = near c i (omega arith) (omega arith) in
+    let next = near c (i + 1) (omega arith) (omega arith) in
+    (sizes-with (q .0) (made .totals-long) (made .pivots-long), ((q .1 .0 .0, inv .2, omega arith, omega arith, here .0, next .0), (here .1, next .1)))
 
 add-i : tie.Need-add-i Inv-loop μ-loop
 add-i c = omega (arith, sizes-small (c .before .before .before .before .before .before .before .before .before .before .before .before .pre .0))
@@ -55,44 +54,27 @@ loop-again : tie.Need-loop-again Inv-loop μ-loop
 loop-again c =
     let a = c .before .before .before .before .before .before .before .before .before .before .before .before .args in
     let q = c .before .before .before .before .before .before .before .before .before .before .before .before .pre in
-    let s = q .0 in
-    let i : ℕ = c .before .before .before .before .before .before .before .before .loop .i in
     let inv = c .before .before .before .before .before .before .before .before .loop .inv in
-    let B : List ℕ = c .before .before .before .before .before .before .before .before .loop .totals in
-    let P : List ℕ = c .before .before .before .before .before .before .before .before .loop .pivots in
-    let high = q .1 .1 .0 .high i (omega arith) (omega arith) in
-    let inside = q .1 .0 .2 in
-    let same : cheapestTo (a .n) (a .table .now) B (a .old) (a .t) i ≡ cheapestTo (a .n) (a .table .now) (a .totals .now) (a .old) (a .t) i
-    = cheapest-same (a .n) (a .table .now) B (a .totals .now) (a .old) (a .t) i (inv .5) (omega arith) in
-    let chosen : (cheapestTo (a .n) (a .table .now) (a .totals .now) (a .old) (a .t) i) .1 < a .n
-    = leastFrom-lt (through (a .n) (a .table .now) (a .totals .now) (a .old) i) (besideOf i (a .t)) (2 ^ a .t) (a .n) (sizes-pos s) (omega arith) in
-    let f : ℕ → ℕ = nextTotal (a .n) (a .table .now) (a .totals .now) (a .old) (a .t) in
-    let g : ℕ → ℕ = nextPivot (a .n) (a .table .now) (a .totals .now) (a .pivots .now) (a .old) (a .t) (a .early) in
-    let e = c .before .before .before .before .settle .ensures .0 ∙ ap (λ x. set B (a .new + i) (x .0)) same in
-    let h = c .before .before .before .before .settle .ensures .1
-    ∙ ap (λ x. set P (a .new + i) (cond (a .early) i (getD P (a .old + x .1) 0))) same
-    ∙ ap (λ x. set P (a .new + i) (cond (a .early) i x)) (inv .6 _ chosen) in (
+    let i : ℕ = c .before .before .before .before .before .before .before .before .loop .i in
+    let here = near (c .before .before .before .before .before) i (omega arith) (omega arith) .0 in
+    let next = near (c .before .before .before .before .before) (i + 1) (omega arith) (omega arith) .0 in (
       omega arith,
       omega arith,
       omega arith,
-      rw (e, length-set) (inv .3),
-      rw (h, length-set) (inv .4),
-      λ j x. rw e (getD-set-other B (a .new + i) (a .old + j) (f i) 0 (q .1 .0 .0 .apart i j (omega arith) x) ∙ inv .5 j x),
-      λ j x. rw h (getD-set-other P (a .new + i) (a .old + j) (g i) 0 (q .1 .0 .0 .apart i j (omega arith) x) ∙ inv .6 j x),
-      rw e (store-more f (λ j. a .new + j) (a .base) i B (omega (arith, s .rows, q .1 .0 .0 .second)) (λ j x y. absurd (omega arith)) (inv .7)),
-      rw h (store-more g (λ j. a .new + j) (a .base) i P (omega (arith, s .marks, q .1 .0 .0 .second)) (λ j x y. absurd (omega arith)) (inv .8)),
+      made-two (a .n) (a .table .now) (a .totals .now) (a .pivots .now) (a .old) (a .new) (a .t) (a .early) (a .base) i _ _ _ _ (q .1 .0 .0) (omega arith) (q .0 .rows) (q .0 .marks) here next (inv .3)
+          (c .before .before .before .before .settle-two .ensures .0) (c .before .before .before .before .settle-two .ensures .1),
     )
 
 same-length : tie.Need-same-length Inv-loop μ-loop
-same-length c = c .before .loop .inv .3
+same-length c = c .before .loop .inv .3 .totals-long
 
 same-length-2 : tie.Need-same-length-2 Inv-loop μ-loop
-same-length-2 c = c .before .loop .inv .4
+same-length-2 c = c .before .loop .inv .3 .pivots-long
 
 returns : tie.Need-returns Inv-loop μ-loop
 returns c =
-    let inv = c .before .loop .inv in
-    (λ i x y. inv .7 i x (omega arith), λ i x y. inv .8 i x (omega arith))
+    let made = c .before .loop .inv .3 in
+    (λ i x y. made .totals-made i x (omega arith), λ i x y. made .pivots-made i x (omega arith))
 
 pub next-row-spec : {M : Type 1} → statement M
 next-row-spec =
@@ -100,9 +82,9 @@ next-row-spec =
     (tie.spec
     Inv-loop
     μ-loop
-    add-i-end
     loop-holds
-    settle-requires
+    add-loop
+    settle-two-requires
     add-i
     loop-less
     loop-again

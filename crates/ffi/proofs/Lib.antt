@@ -1,0 +1,3 @@
+-- Laws of the exported calls.
+pub mod Small
+pub mod Call

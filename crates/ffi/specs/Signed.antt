@@ -1,0 +1,7 @@
+-- 'The result is the count .., or the refusal number made negative.'
+use Prim.Native.Nat.{ℕ}
+use lib.IntN.{ℤ, pos, negsuc, negℤ}
+
+-- a refusal's number, made negative
+abbrev pub refused : ℕ → ℤ
+refused number = negℤ (pos number)

@@ -1,0 +1,198 @@
+//! The planner against the independent reading of document 01.
+
+use evidence::{
+    cases::{any_set, any_table, planted, rounds, seeded, table},
+    cubic,
+    lent::{compare, Lent},
+    plain::{self, Checked, Columns, Pairs, Rows, Slices, Unchecked},
+    reading::{allowed, by_enumeration, by_whole_tables, every_set, order_of, preferred, total},
+};
+
+/// All allowed orders of 2^k stops.
+fn every_order(k: u32) -> Vec<Vec<u16>> {
+    every_set(k).map(|set| order_of(k, &set)).collect()
+}
+
+#[test]
+fn k_0_to_3_against_enumeration() {
+    let mut random = seeded("k = 0 to 3");
+    for k in 0..=3 {
+        let orders = every_order(k);
+        assert_eq!(orders.len(), 1 << ((1 << k) - 1));
+        for _ in 0..60_000 * rounds() {
+            let table = any_table(&mut random, k);
+            compare(k as u16, &table, Lent::suiting(&mut random, k), || by_enumeration(&table, &orders));
+        }
+    }
+}
+
+#[test]
+fn k_4_to_10_against_whole_tables() {
+    let mut random = seeded("k = 4 to 10");
+    for (k, count) in [(4, 9000), (5, 2500), (6, 500), (7, 120), (8, 50), (9, 15), (10, 5)] {
+        for _ in 0..count * rounds() {
+            let table = any_table(&mut random, k);
+            compare(k as u16, &table, Lent::suiting(&mut random, k), || by_whole_tables(k, &table));
+        }
+    }
+}
+
+#[test]
+fn totals_against_the_cubic_method() {
+    let mut random = seeded("cubic method");
+    for (k, count) in [(0, 10), (1, 100), (2, 500), (3, 500), (4, 500), (5, 200), (6, 40), (7, 6)] {
+        for _ in 0..count * rounds() {
+            let table = any_table(&mut random, k);
+            let (order, sum) = cubic::plan(k, &table);
+            assert!(allowed(&order));
+            assert_eq!(total(&table, &order), sum);
+            assert_eq!(Lent::suiting(&mut random, k).plan(k as u16, &table), Ok(sum));
+        }
+    }
+}
+
+/// The two readings of 'allowed' agree, and so do the two independent methods: what the planner is compared with is right.
+#[test]
+fn the_reading_agrees_with_itself() {
+    let mut random = seeded("reading");
+    for k in 0..=3 {
+        let orders = every_order(k);
+        assert!(orders.iter().all(|order| allowed(order)));
+        for _ in 0..300 {
+            let table = any_table(&mut random, k);
+            assert_eq!(by_enumeration(&table, &orders), by_whole_tables(k, &table));
+        }
+    }
+    for k in 4..=10 {
+        for _ in 0..20 {
+            assert!(allowed(&order_of(k, &any_set(&mut random, k))));
+        }
+    }
+    // of all sequences of the stops 0 to 3, repeated ones too, exactly 8 are allowed, and they are the enumerated ones
+    let orders = every_order(2);
+    let sequences = (0..256u16).map(|x| vec![x & 3, x >> 2 & 3, x >> 4 & 3, x >> 6]);
+    let found: Vec<_> = sequences.filter(|order| allowed(order)).collect();
+    assert_eq!(found.len(), 8);
+    assert!(found.iter().all(|order| orders.contains(order)));
+}
+
+#[test]
+fn plain_planners_of_the_benchmark() {
+    let mut random = seeded("plain planners");
+    for (k, count) in [(0, 20), (1, 200), (2, 500), (3, 500), (4, 200), (5, 50), (6, 20), (8, 3)] {
+        for _ in 0..count {
+            let table = any_table(&mut random, k);
+            let k = k as u16;
+            let before = Lent::suiting(&mut random, k.into());
+            let mut first = before.clone();
+            let answer = first.plan(k, &table);
+            for planner in [
+                plain::plan::<Columns<Checked>>,
+                plain::plan::<Rows<Checked>>,
+                plain::plan::<Slices>,
+                plain::plan::<Pairs<Checked>>,
+                plain::plan::<Columns<Unchecked>>,
+                plain::plan::<Rows<Unchecked>>,
+                plain::plan::<Pairs<Unchecked>>,
+            ] {
+                let mut lent = before.clone();
+                assert_eq!(planner(k, &table, &mut lent.order, &mut lent.totals, &mut lent.pivots), answer);
+                assert!(lent == first);
+            }
+        }
+    }
+}
+
+#[test]
+fn a_planted_order_at_every_k() {
+    let mut random = seeded("planted order");
+    for k in 1..=10 {
+        for _ in 0..3 * rounds() {
+            let (table, order, sum) = planted(&mut random, k);
+            compare(k as u16, &table, Lent::suiting(&mut random, k), || (order, sum));
+        }
+    }
+}
+
+#[test]
+fn tables_full_of_ties_at_every_k() {
+    let mut random = seeded("ties");
+    for k in 0..=10 {
+        let n = 1u16 << k;
+        for entry in [0, 1, u32::MAX] {
+            let table = vec![entry; n as usize * n as usize];
+            compare(k as u16, &table, Lent::suiting(&mut random, k), || ((0..n).rev().collect(), u64::from(n - 1) * u64::from(entry)));
+        }
+    }
+    // few different entries, at a large k: no allowed order near the answer is preferred to it
+    let k = 10;
+    let table = table(&mut random, k, 2);
+    let mut lent = Lent::suiting(&mut random, k);
+    let sum = lent.plan(k as u16, &table).expect("the lengths suffice");
+    let order = &lent.order[..1 << k];
+    assert!(allowed(order));
+    assert_eq!(total(&table, order), sum);
+    for _ in 0..500 {
+        let other = order_of(k, &any_set(&mut random, k));
+        assert!(!preferred((&other, total(&table, &other)), (order, sum)));
+    }
+}
+
+#[test]
+fn known_examples() {
+    let examples: [(u16, &[u32], &[u16], u64); 6] = [
+        (0, &[9], &[0], 0),
+        (1, &[0, 3, 7, 0], &[0, 1], 3),
+        (1, &[0, 7, 3, 0], &[1, 0], 3),
+        (1, &[0, 5, 5, 0], &[1, 0], 5),
+        (2, &[1; 16], &[3, 2, 1, 0], 3),
+        (2, &[0, 30, 10, 20, 30, 0, 20, 10, 10, 20, 0, 10, 20, 10, 10, 0], &[2, 3, 1, 0], 50),
+    ];
+    let mut random = seeded("known examples");
+    for (k, table, order, sum) in examples {
+        compare(k, table, Lent::suiting(&mut random, k.into()), || (order.to_vec(), sum));
+    }
+}
+
+/// Every combination of lengths around those that suffice, for k up to 2; each length by itself for larger k; every k above 10.
+#[test]
+fn refusals() {
+    let mut random = seeded("refusals");
+    for k in 0..=2u32 {
+        let n = 1usize << k;
+        let orders = every_order(k);
+        for entries in 0..=n * n + 2 {
+            let table: Vec<u32> = (0..entries).map(|_| random.below(4) as u32).collect();
+            for order in 0..=n + 1 {
+                for totals in 0..=2 * n + 1 {
+                    for pivots in 0..=2 * n + 1 {
+                        let lent = Lent::filled(&mut random, order, totals, pivots);
+                        compare(k as u16, &table, lent, || by_enumeration(&table, &orders));
+                    }
+                }
+            }
+        }
+    }
+    for k in 3..=10u32 {
+        let n = 1usize << k;
+        let none = || unreachable!("the call is refused");
+        let good = table(&mut random, k, 4);
+        let short = |suffices: usize| (0..suffices).step_by(1 + suffices / 100).chain([suffices - 1]);
+        for order in short(n) {
+            compare(k as u16, &good, Lent::filled(&mut random, order, 2 * n, 2 * n), none);
+        }
+        for work in short(2 * n) {
+            compare(k as u16, &good, Lent::filled(&mut random, n, work, 2 * n), none);
+            compare(k as u16, &good, Lent::filled(&mut random, n, 2 * n, work), none);
+        }
+        for entries in short(n * n).chain([n * n + 1, n * n + n, 2 * n * n]) {
+            let wrong: Vec<u32> = good.iter().copied().cycle().take(entries).collect();
+            compare(k as u16, &wrong, Lent::filled(&mut random, n, 2 * n, 2 * n), none);
+        }
+    }
+    for k in 11..=u16::MAX {
+        // 5 comes before 8
+        let length = usize::from(k % 5);
+        compare(k, &[7; 4][..length.min(4)], Lent::filled(&mut random, length, 2 * length, length), || unreachable!("the call is refused"));
+    }
+}
