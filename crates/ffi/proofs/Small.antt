@@ -1,16 +1,15 @@
 -- Totals of 32-bit entries are small, and so are the results of the exported calls.
-use mathlib.Core.Path.{_≡_, refl, ap, _∙_}
+use mathlib.Core.Path.{_≡_, refl}
 use mathlib.Core.List.{List}
 use Prim.Native.Nat.{ℕ, zero, suc, pred, _+_, _*_, _^_, _≤_, _<_}
 use native.Mathlib.Nat.{mul-le-mul-right, suc-mul}
 use native.Mathlib.Omega.{arith}
-use lib.IntN.{ℤ, pos, negsuc}
 use lib.ListN.{length, getD}
 use mir.Syntax.{w64}
 use mir.Val.{SFits}
 use Rattle.base.specs.Refusal.{ifAccepted}
 use Rattle.base.proofs.Size.{pow-le-1024}
-use Rattle.tree.specs.Total.{entry, moves, total}
+use Rattle.tree.specs.Total.{entry, moves}
 use Rattle.tree.specs.Wanted.{wanted}
 use Rattle.tree.proofs.Wanted.{length-wanted}
 use Rattle.planner.specs.Plan.{judgePlan, wantedBy, totalBy}

@@ -1,7 +1,6 @@
 -- The document's worked example of an order file, and its faults, from the definitions.
 use mathlib.Core.Path.{_≡_, refl}
-use mathlib.Core.List.{List, [], _∷_}
-use Prim.Native.Nat.{ℕ}
+use mathlib.Core.List.{[], _∷_}
 use Rattle.records.specs.Field.{bytesOf}
 use Rattle.records.specs.Record.{recordBytes}
 use Rattle.order_file.specs.File.{stopBytes, headBytes, stopsBytes, forksBytes, endBytes, orderFile}

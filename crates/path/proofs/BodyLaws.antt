@@ -9,8 +9,8 @@ use lib.Dec.{eqb}
 use lib.ListN.{length, drop, length-drop}
 use lib.Seq.{drop-drop}
 use borrow.Author.Tests.{eqb-true, eqb-false, ne-eqb}
-use Rattle.base.specs.Refusal.{accepted, trailingBytes}
-use Rattle.records.specs.Record.{recordLength, takeRecord, Taken, refused, takenNumber}
+use Rattle.base.specs.Refusal.{trailingBytes}
+use Rattle.records.specs.Record.{recordLength, takeRecord, Taken, takenNumber}
 use Rattle.records.proofs.LengthLaws.{end-length}
 use Rattle.records.proofs.RecordLaws.{by-taken, number-bad, number-good}
 use Rattle.stop.specs.declared.Stop.{Stop}

@@ -11,13 +11,13 @@ use borrow.Author.Count.{below-more}
 use lib.Seq.{drop-drop}
 use borrow.Author.Tests.{lt-ltb, le-ltb}
 use Rattle.base.specs.Size.{stopCount}
-use Rattle.records.specs.Record.{recordLength, refused}
+use Rattle.records.specs.Record.{recordLength}
 use Rattle.records.proofs.RecordLaws.{by-taken}
 use Rattle.stop.specs.declared.Stop.{Stop}
 use Rattle.stop.specs.Stop.{inRange, judgeStop, zeroStop}
 use Rattle.stop.proofs.Limits.{judged-good, judged-bad}
 use Rattle.base.proofs.Lists.{length-tabulate, tabulate-suc, getD-tabulate}
-use Rattle.path.specs.Path.{head, noHead, readHead, readBody, BodyRead, stops, bodyNumber, stopOf, stopIn, stopNumber, stopVerdict, stopSize, stopPlace, withBody}
+use Rattle.path.specs.Path.{head, noHead, readHead, readBody, BodyRead, bodyNumber, stopOf, stopIn, stopNumber, stopVerdict, stopSize, stopPlace, withBody}
 use Rattle.path.specs.Draw.{Draw, drawn, ended, drawRefused, goodThen, goodStops, drawnOf, lastDraw, drawAt}
 use Rattle.path.specs.Reading.{stopsIn}
 use Rattle.path.proofs.BodyLaws.{body-refused, place-after, body-bad, body-in}

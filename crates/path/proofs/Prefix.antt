@@ -14,7 +14,7 @@ use Rattle.records.specs.Field.{number}
 use Rattle.records.specs.Record.{recordLength, takeRecord, Taken, taken, refused, kindSaid, lengthSaid, isDue}
 use Rattle.records.proofs.LengthLaws.{path-length, end-length}
 use Rattle.records.proofs.RecordLaws.{by-taken}
-use Rattle.path.specs.Path.{HeadRead, head, noHead, readHead, headOf, headFields, readOn, readPath, readBody, stopThen, endOf, withBody, path, noPath, knownVersion, stopSize, pathSize}
+use Rattle.path.specs.Path.{HeadRead, head, noHead, readHead, headOf, headFields, readOn, readPath, readBody, stopThen, endOf, withBody, noPath, knownVersion, stopSize, pathSize}
 use Rattle.path.proofs.HeadLaws.{Seen, good-head, bad-head, head-seen}
 use Rattle.path.proofs.PlaceLaws.{window, size-length}
 use Rattle.path.proofs.WrittenLaws.{size-is}

@@ -6,7 +6,6 @@ use crate::judge::judge_head;
 use base::WRONG_SIZE;
 use base::stop_count;
 ghost use mathlib.Core.Path.{_≡_};
-ghost use lib.ListN.{length};
 ghost use Rattle.base.specs.Size.{stopCount};
 ghost use Rattle.stop.specs.Lent.{coordsOf, speedsOf, blendsOf, stopsFit};
 ghost use Rattle.path.specs.Reading.{stopsIn, filled, readCall, placesFit};

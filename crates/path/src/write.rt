@@ -12,7 +12,6 @@ use stop::Stop;
 use stop::judge_stops;
 use stop::stop_at;
 ghost use mathlib.Core.Path.{_≡_};
-ghost use lib.ListN.{length};
 ghost use Rattle.stop.specs.Lent.{lentStops};
 ghost use Rattle.path.specs.Path.{pathSize};
 ghost use Rattle.path.specs.Written.{losesField, losesAny, writeNumber, writeCall};

@@ -1,7 +1,7 @@
 -- Aligned blocks of places and stops: inside a block each stop's candidates are in the block, and the two rows do not meet.
 use mathlib.Core.Path.{_≡_, refl, sym, ap, _∙_}
 use mathlib.Core.Bool.{Bool, true, false}
-use mathlib.Core.Logic.{_⊎_, inl, inr, _≢_}
+use mathlib.Core.Logic.{_⊎_, inl, inr}
 use Prim.Native.Nat.{ℕ, zero, suc, _+_, _*_, _-_, _/_, _%_, _^_, _≤_, _<_}
 use native.Mathlib.Nat.{pow-succ', mul-left-comm, mul-assoc, add-mul, one-mul}
 use native.Mathlib.Decide.{decLe}
@@ -9,13 +9,11 @@ use native.Mathlib.Omega.{arith}
 use lib.Count.{trailingZeros}
 use lib.Dec.{eqb}
 use lib.Pow.{pow-pos, pow-mono}
-use borrow.Author.Tests.{eqb-true, eqb-false, eq-eqb, ne-eqb}
-use Rattle.base.proofs.Size.{pow-le-1024}
-use Rattle.tree.specs.Neighbour.{trail, mayFollow}
+use Rattle.tree.specs.Neighbour.{trail}
 use Rattle.tree.specs.Block.{besideOf}
-use Rattle.tree.proofs.Beside.{Beside, parity, shr-suc, trail-count}
-use Rattle.tree.proofs.Block.{block-of, block-only, beside-block, beside-in-block, mayFollow-block, trail-inside}
-use Rattle.planner.specs.Row.{rowOf, Sizes, Aligned, Apart, Closed, Place}
+use Rattle.tree.proofs.Beside.{parity, shr-suc, trail-count}
+use Rattle.tree.proofs.Block.{block-of, block-only, beside-block, beside-in-block, trail-inside}
+use Rattle.planner.specs.Row.{rowOf, Aligned, Apart, Closed, Place}
 
 -- a block of at most 1,024 has m up to 10
 pub aligned-small : {n start m : ℕ} → Aligned n start m → n ≤ 1024 → m ≤ 10

@@ -1,8 +1,7 @@
 -- One row from the row before it: what the loops compute stands for the best walks of one move more.
-use mathlib.Core.Path.{_≡_, refl, sym, ap, subst, _∙_}
+use mathlib.Core.Path.{_≡_, refl, sym, subst, _∙_}
 use mathlib.Core.Bool.{Bool, true, false, cond}
 use mathlib.Core.List.{List}
-use mathlib.Core.Logic.{_⊎_, inl, inr}
 use Prim.Native.Nat.{ℕ, zero, suc, _+_, _*_, _-_, _^_, _≤_, _<_}
 use native.Mathlib.Nat.{zero-add, mul-le-mul-right}
 use native.Mathlib.Decide.{decLe}
@@ -19,7 +18,7 @@ use Rattle.tree.specs.Neighbour.{trail, mayFollow, inPlace}
 use Rattle.tree.specs.Block.{besideOf}
 use Rattle.tree.specs.Total.{entry}
 use Rattle.tree.proofs.Block.{mayFollow-block}
-use Rattle.planner.specs.Row.{unreached, through, nextTotal, nextPivot, cheapestTo, leastFrom, mayStart, startTime, blockGraph, Row, Held, Closed, Place, Aligned}
+use Rattle.planner.specs.Row.{unreached, through, nextTotal, nextPivot, leastFrom, mayStart, startTime, blockGraph, Row, Held, Closed, Place}
 use Rattle.planner.proofs.Blocks.{place-trail, closed}
 use Rattle.planner.proofs.Candidates.{leastFrom-all}
 

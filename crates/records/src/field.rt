@@ -2,7 +2,7 @@
 ghost use mathlib.Core.Path.{_≡_};
 ghost use mathlib.Core.List.{_++_};
 ghost use Prim.Native.Nat.{_<_};
-ghost use lib.ListN.{length, take, drop, getD};
+ghost use lib.ListN.{take, drop};
 ghost use Rattle.records.specs.Field.{number, bytesOf, signed, unsigned};
 ghost use Rattle.records.specs.Put.{put};
 

@@ -1,32 +1,30 @@
 -- THE CLAIM OVER A WHOLE RUN: from the three calls' promises alone follows demand 3 about the stops that the bytes mean.
-use mathlib.Core.Path.{_≡_, refl, sym, ap, ap₂, subst, _∙_}
-use mathlib.Core.Bool.{Bool, true, false, cond}
-use mathlib.Core.List.{List, [], _∷_, _++_}
-use mathlib.Core.Logic.{_≢_}
-use Prim.Native.Nat.{ℕ, zero, suc, _+_, _*_, _^_, _≤_, _<_}
+use mathlib.Core.Path.{_≡_, refl, sym, ap, subst, _∙_}
+use mathlib.Core.Bool.{Bool, true}
+use mathlib.Core.List.{List}
+use Prim.Native.Nat.{ℕ, _^_, _<_}
 use native.Mathlib.Omega.{arith}
 use lib.IntN.{ℤ}
-use lib.ListN.{length, getD, take, drop}
+use lib.ListN.{length, take}
 use lib.Seq.{take-at}
 use Rattle.base.specs.Refusal.{ifAccepted}
 use Rattle.base.specs.Size.{stopCount}
 use Rattle.base.proofs.Size.{stopCount-pow}
 use Rattle.stop.specs.declared.Stop.{Stop}
-use Rattle.stop.specs.Lent.{allInRange, lentStops, coordsOf, speedsOf, blendsOf, stopsFit}
+use Rattle.stop.specs.Lent.{lentStops, coordsOf, speedsOf, blendsOf, stopsFit}
 use Rattle.path.specs.declared.PathRead.the-variants.{Read, Refused}
 use Rattle.path.specs.Over.{over}
 use Rattle.path.specs.Path.{PathMeaning, path, noPath, readPath}
 use Rattle.path.specs.Reading.{ReadCall, readAs, readCall}
 use Rattle.path.proofs.JudgeLaws.{stops-left}
-use Rattle.times.specs.declared.TableMade.the-variants.{Made}
-use Rattle.times.specs.Table.{entryOf, tableOf, tableAfter, MadeTable}
+use Rattle.times.specs.Table.{entryOf, tableOf, tableAfter}
 use Rattle.times.proofs.Table.{getD-table}
 use Rattle.tree.specs.Total.{entry, total}
 use Rattle.tree.specs.Wanted.{wanted, Shortest}
 use Rattle.tree.proofs.Diagonal.{shortest-same}
 use Rattle.tree.proofs.Wanted.{wanted-shortest, length-wanted}
 use Rattle.planner.specs.declared.Planned.the-variants.{Done}
-use Rattle.planner.specs.Plan.{planAnswer, planAfter, planNumber, planTotal, judgePlan, wantedBy, totalBy, Plans}
+use Rattle.planner.specs.Plan.{planAfter, planNumber, planTotal, wantedBy, totalBy, Plans}
 use Rattle.run.specs.Claim.{ShortestFor}
 use Rattle.run.specs.Calls.{AcceptedRun}
 use Rattle.run.proofs.Meaning.{GoodPath, path-good, read-same}

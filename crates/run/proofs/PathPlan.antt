@@ -1,9 +1,9 @@
 -- The call for a path keeps its promise: its own test of the head decides, and after it the table and the planner cannot refuse.
 use mathlib.Core.Path.{_≡_, refl, sym, ap, ap₂, subst, _∙_}
 use mathlib.Core.Bool.{Bool, true, false, cond, _&&_}
-use mathlib.Core.List.{List, [], _∷_, _++_}
+use mathlib.Core.List.{List}
 use mathlib.Core.Logic.{_≢_}
-use Prim.Native.Nat.{ℕ, zero, suc, _+_, _*_, _^_, _≤_}
+use Prim.Native.Nat.{ℕ, _+_, _*_, _^_, _≤_}
 use native.Mathlib.Omega.{arith}
 use lib.IntN.{ℤ}
 use lib.ListN.{length, take, drop}
@@ -14,7 +14,7 @@ use Rattle.base.proofs.Size.{stopCount-pow}
 use Rattle.stop.specs.declared.Stop.{Stop}
 use Rattle.stop.proofs.Limits.{and-left, and-right}
 use Rattle.stop.proofs.Lent.{length-coordsOf, length-speedsOf, length-blendsOf}
-use Rattle.stop.specs.Lent.{lentStops, stopsFit, coordsOf, speedsOf, blendsOf, judgeLent, judgeAll, allInRange}
+use Rattle.stop.specs.Lent.{lentStops, stopsFit, coordsOf, speedsOf, blendsOf, judgeLent, judgeAll}
 use Rattle.path.specs.declared.PathRead.{PathRead}
 use Rattle.path.specs.declared.PathRead.the-variants as read
 use Rattle.path.specs.Over.{over}
@@ -35,13 +35,12 @@ use Rattle.tree.specs.Total.{entry, total}
 use Rattle.tree.specs.Wanted.{wanted}
 use Rattle.tree.proofs.Diagonal.{total-same, wanted-same}
 use Rattle.tree.proofs.Wanted.{wanted-allowed}
-use Rattle.run.specs.declared.PathPlanned.{PathPlanned}
 use Rattle.run.specs.declared.PathPlanned.the-variants.{Done, Refused}
 use Rattle.run.specs.Claim.{ShortestFor}
 use Rattle.run.specs.Calls.{AcceptedRun, Second, went-on, stopped, TimedPlan}
 use Rattle.run.specs.PathPlan.{Lent, runFits, headNumber, runNumber, runValues, runAnswer, runLeaves, runMeaning, meaningNumber, meaningValues, answered, PlansPath}
 use Rattle.run.proofs.Meaning.{GoodPath, path-good, path-fits}
-use Rattle.run.proofs.Claim.{run-shortest, Left, reading-left, table-times}
+use Rattle.run.proofs.Claim.{run-shortest, Left, table-times}
 
 -- a refusal is no success
 not-done : (n version k t : ℕ) → Refused n ≡ Done version k t → ⊥

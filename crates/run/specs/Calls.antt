@@ -5,7 +5,7 @@ use mathlib.Core.List.{List}
 use Prim.Native.Nat.{ℕ}
 use lib.IntN.{ℤ}
 use Rattle.path.specs.declared.PathRead.the-variants as read
-use Rattle.path.specs.Reading.{ReadCall, readCall}
+use Rattle.path.specs.Reading.{readCall}
 use Rattle.times.specs.declared.TableMade.{TableMade}
 use Rattle.times.specs.declared.TableMade.the-variants as made
 use Rattle.times.specs.Table.{MadeTable}

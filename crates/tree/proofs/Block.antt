@@ -1,6 +1,6 @@
 -- The aligned blocks of stops: the candidates before a stop are the block beside its own (Lemma 3), and an aligned block of places holds
 -- an aligned block of stops (Lemma 5).
-use mathlib.Core.Path.{_≡_, refl, sym, ap, _∙_}
+use mathlib.Core.Path.{_≡_, sym, ap, _∙_}
 use mathlib.Core.Bool.{true}
 use mathlib.Core.Logic.{_≢_, _↔_, _⊎_, inl, inr}
 use Prim.Native.Nat.{ℕ, zero, suc, _+_, _*_, _-_, _/_, _%_, _^_, _≤_, _<_}

@@ -1,6 +1,6 @@
 -- The tree's test as the graph's: allowed orders are the walks of the tree's graph, totals are their costs, and an order that the graph
 -- prefers to every other meets demand 3.
-use mathlib.Core.Path.{_≡_, refl, sym, ap, ap₂, subst, _∙_}
+use mathlib.Core.Path.{_≡_, refl, sym, ap, _∙_}
 use mathlib.Core.Bool.{Bool, true, false, cond}
 use mathlib.Core.List.{List}
 use mathlib.Core.Logic.{_≢_, _↔_}
@@ -9,12 +9,12 @@ use native.Mathlib.Numerals.{sub-one}
 use native.Mathlib.Omega.{arith}
 use lib.Bits.{bitXor}
 use lib.Dec.{leb, ltb}
-use lib.ListN.{length, getD}
+use lib.ListN.{length}
 use lib.Pow.{pow-pos}
 use lib.Seq.{ext-getD}
-use borrow.Author.Tests.{le-leb, lt-leb, lt-ltb, leb-true, leb-false, ltb-true}
+use borrow.Author.Tests.{le-leb, lt-ltb, leb-true, ltb-true}
 use Rattle.walks.specs.Places.{costTo, Admits, Earlier, Preferred, by-cost, by-stops, alike}
-use Rattle.walks.specs.Halves.{segment, past}
+use Rattle.walks.specs.Halves.{segment}
 use Rattle.tree.specs.Neighbour.{reach, mayFollow, inPlace, Meets}
 use Rattle.tree.specs.Order.{orderOf, Allowed}
 use Rattle.tree.specs.Total.{moves, total}

@@ -1,12 +1,9 @@
 -- The orders as the text defines them (Order.antt) are those of Node.antt.
-use mathlib.Core.Path.{_≡_, refl, ap, _∙_}
-use mathlib.Core.List.{List, [], _∷_, _++_, map}
+use mathlib.Core.Path.{_≡_, ap, _∙_}
 use Prim.Native.Nat.{ℕ, zero, suc, _+_, _*_, _-_, _/_, _%_, _^_, _<_}
 use native.Mathlib.Nat.{pow-succ', pow-zero, div-one, add-zero, add-suc, suc-add, zero-add, add-mul, mul-assoc, mul-comm, add-assoc}
-use native.Mathlib.Decide.{decLt}
 use native.Mathlib.Omega.{arith}
-use lib.ListN.{length, getD, length-append, length-map, List·getD-append}
-use lib.Seq.{getD-at}
+use lib.ListN.{length, getD}
 use Rattle.base.proofs.Lists.{length-tabulate, getD-tabulate}
 use Rattle.tree.specs.Fork.{bit, forkAbove}
 use Rattle.tree.specs.Order.{placeBit, placeBits, placeOf, down, stopIn, orderOf}

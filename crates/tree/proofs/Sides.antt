@@ -1,8 +1,8 @@
 -- An order from the root down: the order of what is below a fork is that of one side and then that of the other, and each stop
 -- stands in it once.
 use mathlib.Core.Path.{_≡_, refl, sym, ap, _∙_}
-use mathlib.Core.List.{List, [], _∷_, _++_, map}
-use Prim.Native.Nat.{ℕ, zero, suc, _+_, _*_, _-_, _/_, _%_, _^_, _<_}
+use mathlib.Core.List.{List, _++_, map}
+use Prim.Native.Nat.{ℕ, zero, suc, _+_, _-_, _/_, _%_, _^_, _<_}
 use native.Mathlib.Nat.{zero-sub, pow-succ', div-eq-of-lt, div-eq-of-lt-le}
 use native.Mathlib.Decide.{decLt}
 use native.Mathlib.Omega.{arith}
@@ -14,7 +14,7 @@ use Rattle.tree.specs.Order.{placeOf, down, stopIn, orderOf, below}
 use Rattle.tree.specs.Neighbour.{inPlace}
 use Rattle.tree.proofs.Bit.{shr-add}
 use Rattle.tree.proofs.Theorem7.{placeOf-lt, placeOf-stopIn, stopIn-placeOf}
-use Rattle.tree.proofs.Link.{length-orderOf, getD-orderOf}
+use Rattle.tree.proofs.Link.{getD-orderOf}
 
 -- only the lowest d bits of the place matter for the way down d depths
 down-same : (F p q d v : ℕ) → ((b : ℕ) → b < d → bit p b ≡ bit q b) → down F p d v ≡ down F q d v

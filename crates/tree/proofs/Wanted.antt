@@ -1,16 +1,16 @@
 -- The wanted order: it is allowed, no set of forks gives one that is preferred to it, and nothing else has that property. This is
 -- demand 3 about the definitions.
-use mathlib.Core.Path.{_≡_, refl, sym, ap, ap₂, subst, _∙_}
+use mathlib.Core.Path.{_≡_, refl, sym, ap, subst, _∙_}
 use mathlib.Core.Bool.{Bool, true, false, cond}
 use mathlib.Core.List.{List}
 use mathlib.Core.Logic.{_≢_}
-use Prim.Native.Nat.{ℕ, zero, suc, pred, _+_, _*_, _-_, _/_, _%_, _^_, _≤_, _<_}
+use Prim.Native.Nat.{ℕ, zero, suc, _*_, _-_, _/_, _^_, _<_}
 use native.Mathlib.Nat.{pow-succ'}
 use native.Mathlib.Omega.{arith}
-use lib.ListN.{length, getD}
+use lib.ListN.{length}
 use lib.Pow.{pow-pos}
 use lib.Seq.{ext-getD}
-use Rattle.walks.specs.Prefer.{beforeb, Lex, AtMost, less, same, cheaper, smaller, Compared, former, even, latter}
+use Rattle.walks.specs.Prefer.{Lex, AtMost, less, same, cheaper, smaller, Compared, former, even, latter}
 use Rattle.walks.specs.Places.{stopsTo, Earlier}
 use Rattle.walks.proofs.Prefer.{Trich, trich, below, equal, above, beforeb-true, beforeb-false, atMost-refl, atMost-trans, atMost-antisym, atMost-cost, before-total, lex-irrefl, lex-trans, lex-differ}
 use Rattle.walks.proofs.Places.{earlier-lex, lex-earlier, stops-alike, stops-length}

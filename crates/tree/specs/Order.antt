@@ -1,6 +1,6 @@
 -- Places and orders.
 use mathlib.Core.Path.{_≡_}
-use mathlib.Core.List.{List, [], _∷_, _++_, map}
+use mathlib.Core.List.{List, [], _∷_, _++_}
 use Prim.Native.Nat.{ℕ, zero, suc, _+_, _*_, _-_, _%_, _^_}
 use Rattle.base.specs.Lists.{tabulate}
 use Rattle.tree.specs.Fork.{bit, side, stopOf, forkAbove}

@@ -5,7 +5,6 @@ use Prim.Native.Nat.{ℕ, _<_}
 use lib.ListN.{length, getD}
 use Rattle.walks.specs.Prefer.{lexb, beforeb}
 use Rattle.walks.specs.Places.{stopsTo}
-use Rattle.stop.specs.Stop.{zeroStop}
 use Rattle.stop.specs.Time.{gap, distance, roundUp, travel, time, timeBetween}
 use Rattle.times.specs.Table.{entryOf}
 use Rattle.tree.specs.Wanted.{wanted, bestOf, Shortest}

@@ -1,6 +1,6 @@
 -- What the test computes is what the example says.
-use mathlib.Core.Path.{_≡_, refl, sym, ap, _∙_}
-use mathlib.Core.Bool.{Bool, true, false, not, _&&_}
+use mathlib.Core.Path.{_≡_, sym}
+use mathlib.Core.Bool.{true, not, _&&_}
 use mathlib.Core.List.{List, [], _∷_}
 use Prim.Native.Nat.{ℕ, zero, suc, _^_, _<_}
 use native.Mathlib.Omega.{arith}
@@ -10,7 +10,7 @@ use borrow.Author.Tests.{eqb-true, eq-eqb, not-true}
 use Rattle.stop.specs.declared.Stop.{Stop}
 use Rattle.stop.specs.Time.{distance, time}
 use Rattle.times.specs.Table.{entryOf}
-use Rattle.tree.specs.Order.{orderOf, Allowed}
+use Rattle.tree.specs.Order.{orderOf}
 use Rattle.tree.specs.Total.{entry, total}
 use Rattle.tree.specs.Wanted.{wanted, Shortest}
 use Rattle.tree.proofs.Wanted.{wanted-shortest, shortest-wanted}

@@ -1,5 +1,5 @@
 -- `base::stop_count` meets its contract: up to k = 10 the shift loses no bit.
-use mathlib.Core.Path.{_∙_, sym}
+use mathlib.Core.Path.{_∙_}
 use Prim.Native.Nat.{_^_}
 use native.Mathlib.Nat.{one-mul}
 use native.Mathlib.Omega.{arith}

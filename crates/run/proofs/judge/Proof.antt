@@ -1,9 +1,7 @@
 -- `run::judge` meets its contract.
-use mathlib.Core.Path.{_≡_, sym, ap, _∙_}
+use mathlib.Core.Path.{sym, _∙_}
 use Prim.Native.Nat.{ℕ}
-use lib.ListN.{length}
 use borrow.Author.Tests.{not-true, not-false}
-use Rattle.path.specs.Reading.{placesFit}
 use Rattle.run.specs.PathPlan.{Lent}
 use Rattle.run.proofs.PathPlan.{judge-refuses, judge-accepts, judge-small, lengths-short, lengths-rest}
 use borrow.Author.Needs.{needs}

@@ -1,8 +1,8 @@
 -- `run::plan_path` meets its contract. Its parts are the laws of `PathPlan`.
-use mathlib.Core.Path.{_≡_, refl, sym, ap, _∙_}
+use mathlib.Core.Path.{sym, _∙_}
 use Prim.Native.Nat.{ℕ}
-use Rattle.path.specs.Reading.{ReadCall, readCall}
-use Rattle.run.specs.PathPlan.{Lent, answered}
+use Rattle.path.specs.Reading.{readCall}
+use Rattle.run.specs.PathPlan.{Lent}
 use Rattle.run.proofs.Claim.{reading-left}
 use Rattle.run.proofs.PathPlan.{refuses, head-refuses, read-refuses, reading-whole, path-planned}
 use borrow.Author.Needs.{needs}

@@ -1,6 +1,5 @@
 -- `run::time_and_plan` meets its contract.
-use mathlib.Core.Path.{_≡_, refl, subst}
-use Rattle.times.specs.Table.{MadeTable}
+use mathlib.Core.Path.{refl}
 use Rattle.run.specs.Calls.{went-on, stopped}
 use borrow.Author.Needs.{needs}
 use Rattle.run.proofs.time_and_plan.Statement.{statement}

@@ -1,6 +1,6 @@
 -- `tree::reach` meets its contract: a place that is not 0 has fewer than 64 trailing zero bits, so the shift loses no bit.
-use mathlib.Core.Path.{_≡_, _∙_, ap}
-use Prim.Native.Nat.{ℕ, _^_, _≤_, _<_}
+use mathlib.Core.Path.{_∙_, ap}
+use Prim.Native.Nat.{ℕ, _^_, _<_}
 use native.Mathlib.Nat.{one-mul}
 use native.Mathlib.Omega.{arith}
 use lib.Count.{trailingZeros}

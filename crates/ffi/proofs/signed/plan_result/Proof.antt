@@ -1,6 +1,5 @@
 -- `ffi::signed::plan_result` meets its contract, arm by arm.
 use mathlib.Core.Path.{sym, ap, _∙_}
-use Prim.Native.Nat.{_^_, _<_}
 use mir.Syntax.{w64}
 use mir.ValLaws.{toZ-ofZ}
 use borrow.Author.Needs.{needs}

@@ -9,7 +9,7 @@ use Rattle.stop.specs.declared.Stop.{Stop}
 use Rattle.path.specs.Over.{over}
 use Rattle.path.specs.Reading.{stopsIn}
 use Rattle.path.proofs.FillLaws.{next-coords, next-speeds, next-blends}
-use Rattle.path.specs.Path.{stopIn, stops}
+use Rattle.path.specs.Path.{stopIn}
 use Rattle.path.proofs.OverLaws.{over-nil}
 use native.Mathlib.Numerals.{add-one}
 use borrow.Author.Needs.{needs}

@@ -3,7 +3,7 @@ use mathlib.Core.Path.{_≡_, sym, ap, _∙_}
 use denote.Ref.{now}
 use lib.ListN.{take, drop}
 use borrow.Author.Tests.{not-true, not-false}
-use Rattle.path.specs.Path.{noHead, head, readHead, headFields}
+use Rattle.path.specs.Path.{noHead, readHead, headFields}
 use Rattle.path.specs.Reading.{headAnswer}
 use Rattle.records.specs.Record.{recordLength, takeRecord, takenNumber, taken}
 use Rattle.records.specs.Field.{number}

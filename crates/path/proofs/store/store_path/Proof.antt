@@ -8,7 +8,7 @@ use Rattle.base.specs.Size.{stopCount}
 use Rattle.records.specs.Put.{put}
 use Rattle.path.specs.Written.{stopsBytes, headBytes, pathBytes}
 use Rattle.path.proofs.WrittenLaws.{length-stopsBytes, length-headBytes, length-pathBytes, size-is, bytes-range, put-over}
-use Rattle.path.specs.Path.{head, stopSize, stops}
+use Rattle.path.specs.Path.{head, stopSize}
 use Rattle.path.proofs.PlaceLaws.{place-is}
 use Rattle.records.proofs.PutLaws.{put-three}
 use lib.ListN.{length}

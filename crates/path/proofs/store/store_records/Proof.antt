@@ -10,7 +10,7 @@ use denote.Ref.{now}
 use Rattle.records.specs.Put.{put}
 use Rattle.path.specs.Written.{stopsBytes}
 use Rattle.path.proofs.WrittenLaws.{size-is}
-use Rattle.path.specs.Path.{stopPlace, stopSize, stops}
+use Rattle.path.specs.Path.{stopPlace, stopSize}
 use Rattle.path.proofs.FillLaws.{next-record}
 use Rattle.records.proofs.PutLaws.{put-none}
 use Rattle.stop.specs.Lent.{lentStops, stopAt}

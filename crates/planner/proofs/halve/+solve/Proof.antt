@@ -1,5 +1,5 @@
 -- `planner::halve::solve` meets its contract, and ends: m falls at each call.
-use mathlib.Core.Path.{_≡_, _∙_}
+use mathlib.Core.Path.{_∙_}
 use native.Mathlib.Omega.{arith}
 use Rattle.planner.specs.Row.{Aligned}
 use Rattle.planner.proofs.Table.{sizes-small, sizes-kept}

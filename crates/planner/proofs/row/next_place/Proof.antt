@@ -1,13 +1,9 @@
 -- `planner::row::next_place` meets its contract.
-use mathlib.Core.Path.{_≡_, sym, subst}
 use mathlib.Core.Logic.{⊎-elim}
-use Prim.Native.Nat.{ℕ, _-_, _^_, _<_, _≤_}
+use Prim.Native.Nat.{_-_, _<_}
 use native.Mathlib.Omega.{arith}
-use lib.Count.{trailingZeros}
-use lib.Dec.{leb}
-use Rattle.walks.specs.Rows.{line, Codes}
 use Rattle.tree.specs.Neighbour.{trail}
-use Rattle.planner.specs.Row.{unreached, nextTotal, nextPivot, blockGraph, rowOf, Closed}
+use Rattle.planner.specs.Row.{rowOf, Closed}
 use Rattle.planner.proofs.Table.{sizes-small}
 use Rattle.planner.proofs.Blocks.{aligned-small, aligned-even, pow-half, place-trail, place-count, closed, rowOf-cases, rows-apart}
 use Rattle.planner.proofs.Rows.{next-holds}

@@ -1,5 +1,5 @@
 -- `planner::row::settle_two` meets its contract: what is written for the first stop is not looked at for the second.
-use Prim.Native.Nat.{_+_, _<_}
+use Prim.Native.Nat.{_+_}
 use mathlib.Core.Path.{ap, _∙_}
 use native.Mathlib.Omega.{arith}
 use lib.ListN.{length, length-set}

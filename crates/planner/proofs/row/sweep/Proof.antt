@@ -1,12 +1,11 @@
 -- `planner::row::sweep` meets its contract. The loop's invariant: the row of the place before p is there.
 use mathlib.Core.Path.{_≡_, refl, sym, _∙_}
-use Prim.Native.Nat.{ℕ, suc, _+_, _*_, _-_, _%_, _^_, _≤_, _<_}
-use native.Mathlib.Nat.{pow-succ'}
+use Prim.Native.Nat.{ℕ, _+_, _-_, _%_, _^_, _≤_}
 use native.Mathlib.Omega.{arith}
 use lib.ListN.{length}
 use lib.Pow.{pow-pos}
-use Rattle.planner.specs.Row.{blockGraph, rowOf, Row, Sizes}
-use Rattle.planner.proofs.Table.{sizes-small, sizes-pos, sizes-with, sizes-order}
+use Rattle.planner.specs.Row.{blockGraph, rowOf, Row}
+use Rattle.planner.proofs.Table.{sizes-small, sizes-with, sizes-order}
 use Rattle.planner.proofs.Blocks.{aligned-small, aligned-even, rowOf-odd, rowOf-even, rowOf-before, pow-half}
 use Rattle.planner.proofs.Rows.{first-holds, row-held, row-at}
 use Rattle.planner.proofs.row.sweep.Statement.{statement}

@@ -1,8 +1,6 @@
 -- `planner::row::two_cheapest` meets its contract: from t = 1 on an even stop and the next have the same candidates.
-use mathlib.Core.Path.{_≡_, sym, _∙_}
-use Prim.Native.Nat.{ℕ, _+_, _^_, _<_}
+use Prim.Native.Nat.{_<_}
 use native.Mathlib.Omega.{arith}
-use Rattle.tree.specs.Block.{besideOf}
 use Rattle.planner.proofs.Table.{sizes-small}
 use Rattle.planner.proofs.Blocks.{beside-next}
 use borrow.Author.Needs.{needs}
