@@ -1,0 +1,52 @@
+-- `planner_examples::show::count_totals` meets its contract.
+use mathlib.Core.Path.{_≡_}
+use Prim.Native.Nat.{_-_, _≤_}
+use lib.ListN.{length}
+use borrow.Author.Needs.{needs}
+use Rattle.planner_examples.proofs.show.count_totals.Statement.{statement}
+use Rattle.planner_examples.proofs.show.count_totals.Tie as tie
+
+abbrev Inv-loop : tie.InvT-loop
+Inv-loop totals value count₀ i₀ i-end count i = (i ≤ length totals) × (i-end ≡ length totals)
+
+abbrev μ-loop : tie.MeasureT-loop
+μ-loop totals value count₀ i₀ i-end count i = length totals - i
+
+loop-holds : tie.Need-loop-holds Inv-loop μ-loop
+loop-holds c = search needs
+
+mul-if1 : tie.Need-mul-if1 Inv-loop μ-loop
+mul-if1 c = search needs
+
+shared-slice-read-if1 : tie.Need-shared-slice-read-if1 Inv-loop μ-loop
+shared-slice-read-if1 c = search needs
+
+wrapping-add-u64-requires : tie.Need-wrapping-add-u64-requires Inv-loop μ-loop
+wrapping-add-u64-requires c κs = search needs
+
+add-i : tie.Need-add-i Inv-loop μ-loop
+add-i c = search needs
+
+loop-less : tie.Need-loop-less Inv-loop μ-loop
+loop-less c = search needs
+
+loop-again : tie.Need-loop-again Inv-loop μ-loop
+loop-again c = search needs
+
+returns : tie.Need-returns Inv-loop μ-loop
+returns c = search needs
+
+pub count-totals-spec : {M : Type 1} → statement M
+count-totals-spec =
+    tie.close
+    (tie.spec
+    Inv-loop
+    μ-loop
+    loop-holds
+    mul-if1
+    shared-slice-read-if1
+    wrapping-add-u64-requires
+    add-i
+    loop-less
+    loop-again
+    returns)
