@@ -2,3 +2,6 @@
 pub mod Signed
 pub mod Taking
 pub mod Planning
+pub mod Reading
+pub mod Checking
+pub mod Rewriting

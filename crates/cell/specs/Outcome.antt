@@ -1,7 +1,7 @@
 -- What a call of the controller comes to: 'The result is the count of bytes written, 0 for a good check, or the refusal number made negative.'
 use mathlib.Core.Bool.{Bool}
-use mathlib.Core.List.{List, []}
-use Prim.Native.Nat.{ℕ}
+use mathlib.Core.List.{List}
+use Prim.Native.Nat.{ℕ, zero, suc}
 use lib.Dec.{leb}
 use lib.IntN.{ℤ, pos, negℤ}
 use lib.ListN.{length}
@@ -17,6 +17,11 @@ use Rattle.order_file.specs.declared.FileRead.the-variants as check-answer
 pub data Outcome : Type 0 where
   done : (bytes : List ℕ) → Outcome
   refused : (number : ℕ) → Outcome
+
+-- the outcome of a number: 0 is no refusal
+unfoldable pub outcomeOf : (number : ℕ) (bytes : List ℕ) → Outcome
+outcomeOf zero bytes = done bytes
+outcomeOf (suc n) bytes = refused (suc n)
 
 -- the signed result
 unfoldable pub resultOf : Outcome → ℤ
