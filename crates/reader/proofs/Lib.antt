@@ -1,0 +1,4 @@
+-- Laws of draws.
+pub mod DrawsLaws
+mod LastLaws
+pub mod StepLaws
