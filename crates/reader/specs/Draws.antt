@@ -5,6 +5,7 @@ use mathlib.Core.List.{List}
 use Prim.Native.Nat.{ℕ, zero, suc, _-_, _/_}
 use lib.Dec.{ltb, eqb}
 use lib.ListN.{drop}
+use denote.Ref.{RefT, now}
 use Rattle.base.specs.Refusal.{accepted}
 use Rattle.base.specs.Size.{stopCount}
 use Rattle.stop.specs.Stop.{zeroStop}
@@ -12,6 +13,7 @@ use Rattle.path.specs.Path.{HeadRead, head, noHead, readHead, readBody, bodyNum
 use Rattle.path.specs.Draw.{Draw, drawn, ended, drawRefused}
 use Rattle.reader.specs.declared.Drawn.{Drawn}
 use Rattle.reader.specs.declared.Step.{Step}
+use Rattle.reader.specs.declared.Reader.{Reader}
 
 -- the verdicts of an answer
 abbrev pub aStop : ℕ
@@ -65,3 +67,22 @@ stepsFrom bytes at version zero = stepAt bytes at version
 stepsFrom bytes at version (suc d) =
     let before = stepsFrom bytes at version d in
     stepAt bytes (before .at) (before .version)
+
+-- ---- the reader that holds the bytes, the cursor and the version
+
+-- a reader of some bytes that knows versions up to `highest`
+abbrev pub opened : (bytes : RefT (List ℕ)) (highest : ℕ) → Reader
+opened bytes highest = record { src = bytes; at = 0; version = highest }
+
+-- its next draw
+abbrev pub nextStep : Reader → Step
+nextStep r = stepAt (now (r .src)) (r .at) (r .version)
+
+-- and the reader after a draw: the same bytes, with the cursor and the version that the draw left
+abbrev pub moved : Reader → Step → Reader
+moved r s = record { src = r .src; at = s .at; version = s .version }
+
+-- the reader after d draws
+unfoldable pub afterDraws : Reader → (d : ℕ) → Reader
+afterDraws r zero = r
+afterDraws r (suc d) = moved (afterDraws r d) (nextStep (afterDraws r d))
