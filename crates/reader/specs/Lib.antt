@@ -1,0 +1,2 @@
+-- Stops drawn one after another from the bytes of a path.
+pub mod Draws
