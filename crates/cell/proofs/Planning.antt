@@ -34,7 +34,7 @@ use Rattle.run.specs.declared.PathPlanned.{PathPlanned}
 use Rattle.run.specs.declared.PathPlanned.the-variants.{Done, Refused}
 use Rattle.run.specs.Claim.{ShortestFor}
 use Rattle.run.specs.PathPlan.{Lent, runFits, runAnswer, runLeaves, runMeaning, PlansPath}
-use Rattle.run.proofs.Meaning.{GoodPath, path-good, accepted}
+use Rattle.run.proofs.Meaning.{GoodPath, path-good, path-fits}
 use Rattle.run.proofs.Claim.{table-times}
 use Rattle.cell.specs.Outcome.{Outcome, done, refused, resultOf, leaves, fileResult}
 use Rattle.cell.specs.Plan.{planTakes, wantedFile, planned, cellPlan, Carries, CellPlans}
@@ -125,7 +125,7 @@ module _ (bytes : List ℕ) (highest : ℕ) (l l′ : Lent) (out : List ℕ)
 
     -- there is room for the file
     room : fileSize (2 ^ k) ≤ length out
-    room = taken-plan (length out) k (accepted bytes highest (planTakes (length out)) version k ss (sym same ∙ s .means) .fits) .1
+    room = taken-plan (length out) k (path-fits bytes highest (planTakes (length out)) version k ss (sym same ∙ s .means)) .1
 
     -- what the run left
     after : l′ ≡ runLeaves l (path version k ss)

@@ -19,7 +19,7 @@ use Rattle.path.specs.declared.PathRead.the-variants.{Read, Refused}
 use Rattle.path.specs.Path.{PathMeaning, path, noPath, readPath}
 use Rattle.path.specs.Reading.{readAs, readCall}
 use Rattle.path.proofs.JudgeLaws.{accepted-facts, stops-left}
-use Rattle.run.proofs.Meaning.{accepted}
+use Rattle.run.proofs.Meaning.{path-fits}
 use Rattle.run.proofs.Claim.{Left, reading-left}
 use Rattle.run.proofs.PathPlan.{reading-whole}
 use Rattle.cell.specs.Outcome.{cellMaxK, cellTakes}
@@ -78,7 +78,7 @@ module _ (bytes : List ℕ) (highest : ℕ) (coords : List ℤ) (speeds blends :
       let ss : List Stop = left .stops in
       let means : readPath bytes highest cellTakes ≡ path version k ss = sym same ∙ left .means in
       let facts = accepted-facts bytes highest cellTakes version k ss means in
-      let takes : cellTakes k ≡ true = accepted bytes highest cellTakes version k ss means .fits in
+      let takes : cellTakes k ≡ true = path-fits bytes highest cellTakes version k ss means in
       let found : lentStops (stopCount k) c′ s′ b′ ≡ ss
       = rw (left .points, left .paces, left .rounds) (stops-left bytes highest cellTakes version k ss means coords speeds blends) in
       record {
