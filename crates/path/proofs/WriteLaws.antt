@@ -8,14 +8,16 @@ use lib.Dec.{leb, ltb, eqb}
 use lib.IntN.{ℤ}
 use lib.ListN.{length}
 use borrow.Author.Tests.{lt-ltb, le-ltb, le-leb, lt-leb, eq-eqb, ne-eqb, ltb-false, eqb-true}
+use Rattle.base.specs.Refusal.{accepted}
 use Rattle.base.specs.Size.{stopCount}
 use Rattle.stop.specs.declared.Stop.{Stop}
 use Rattle.stop.specs.Lent.{lentStops, judgeLent}
 use Rattle.base.specs.Lists.{tabulate}
+use Rattle.path.specs.declared.PathWritten.{PathWritten}
 use Rattle.path.specs.declared.PathWritten.the-variants.{Wrote, Refused}
 use Rattle.path.specs.Over.{over}
 use Rattle.path.specs.Path.{knownVersion, pathSize}
-use Rattle.path.specs.Written.{losesField, losesAny, elseNext, pathBytes, writeNumber, writeAs, writeCall}
+use Rattle.path.specs.Written.{losesField, losesAny, elseNext, pathBytes, writeNumber, writtenNumber, writtenCount, SaysWritten, writeAs, writeCall}
 use Rattle.path.proofs.WrittenLaws.{length-written}
 
 -- ---- fields that a version lacks
@@ -103,3 +105,12 @@ write-done number bytes out e = rw e
 pub call-is : (version k : ℕ) (coords : List ℤ) (speeds blends out : List ℕ) → writeCall version k coords speeds blends out ≡ writeAs (writeNumber version k coords speeds blends (length out)) (pathBytes version k (lentStops (stopCount k) coords speeds blends)) out
 unfolding writeCall
 call-is version k coords speeds blends out = refl
+
+-- an answer that is as the definition says has its number and value
+pub says-written : (number : ℕ) (bytes out : List ℕ) (r : PathWritten) → r ≡ writeAs number bytes out .answer → SaysWritten r number bytes
+unfolding writeAs writtenNumber writtenCount
+says-written number bytes out r e = pick (eqb number accepted) refl
+  where
+    pick : (b : Bool) → eqb number accepted ≡ b → SaysWritten r number bytes
+    pick true t = record { number = rw (e, t) (sym (eqb-true _ _ t)); count = rw (e, t) }
+    pick false t = record { number = rw (e, t); count = rw (e, t) }

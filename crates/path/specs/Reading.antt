@@ -1,4 +1,5 @@
 -- What the reading calls answer, and what they leave in the lent buffers.
+use mathlib.Core.Path.{_≡_}
 use mathlib.Core.Bool.{Bool, cond, _&&_}
 use mathlib.Core.List.{List}
 use Prim.Native.Nat.{ℕ, _*_}
@@ -34,6 +35,27 @@ readVersion (Refused n) = 0
 unfoldable pub readSize : PathRead → ℕ
 readSize (Read version k) = k
 readSize (Refused n) = 0
+
+-- the same of a meaning: its number,
+unfoldable pub meaningNumber : PathMeaning → ℕ
+meaningNumber (path version k ss) = accepted
+meaningNumber (noPath n) = n
+
+-- the version,
+unfoldable pub meaningVersion : PathMeaning → ℕ
+meaningVersion (path version k ss) = version
+meaningVersion (noPath n) = 0
+
+-- and k
+unfoldable pub meaningSize : PathMeaning → ℕ
+meaningSize (path version k ss) = k
+meaningSize (noPath n) = 0
+
+-- an answer says what path bytes mean: the number, the version and k
+pub record SaysRead (r : PathRead) (m : PathMeaning) : Type 0 where
+  pub number : readNumber r ≡ meaningNumber m
+  pub version : readVersion r ≡ meaningVersion m
+  pub size : readSize r ≡ meaningSize m
 
 -- places for so many stops in buffers of these lengths
 unfoldable pub placesFit : (count coords speeds blends : ℕ) → Bool

@@ -1,4 +1,5 @@
 -- What bytes a path is written as, and what the writing call answers: 'Writing a path: version, k, stops lent (8), 6 in stop order, 13, output (8).'
+use mathlib.Core.Path.{_≡_}
 use mathlib.Core.Bool.{Bool, true, false, cond, _&&_, _||_, not}
 use mathlib.Core.List.{List, [], _∷_, _++_}
 use Prim.Native.Nat.{ℕ}
@@ -75,6 +76,11 @@ writtenNumber (Refused n) = n
 unfoldable pub writtenCount : PathWritten → ℕ
 writtenCount (Wrote n) = n
 writtenCount (Refused n) = 0
+
+-- an answer says the number of writing, and on success the count of the bytes
+pub record SaysWritten (r : PathWritten) (verdict : ℕ) (bytes : List ℕ) : Type 0 where
+  pub number : writtenNumber r ≡ verdict
+  pub count : writtenCount r ≡ cond (eqb verdict accepted) (length bytes) 0
 
 -- what a writing call answers and leaves in the output
 pub record WriteCall : Type 0 where

@@ -8,7 +8,8 @@ use base::stop_count;
 ghost use mathlib.Core.Path.{_≡_};
 ghost use Rattle.base.specs.Size.{stopCount};
 ghost use Rattle.stop.specs.Lent.{coordsOf, speedsOf, blendsOf, stopsFit};
-ghost use Rattle.path.specs.Reading.{stopsIn, filled, readCall, placesFit};
+ghost use Rattle.path.specs.Path.{readPath};
+ghost use Rattle.path.specs.Reading.{stopsIn, filled, readCall, placesFit, SaysRead};
 
 // Whether buffers of these lengths have places for `count` stops.
 pub fn stops_fit(count: usize, coords: usize, speeds: usize, blends: usize) -> bool
@@ -56,6 +57,7 @@ pub fn read_path(
     ensures { λ r. ⌜ now (coords .exit) ≡ readCall (now (bytes .entry)) highest (now (coords .entry)) (now (speeds .entry)) (now (blends .entry)) .coords ⌝ }
     ensures { λ r. ⌜ now (speeds .exit) ≡ readCall (now (bytes .entry)) highest (now (coords .entry)) (now (speeds .entry)) (now (blends .entry)) .speeds ⌝ }
     ensures { λ r. ⌜ now (blends .exit) ≡ readCall (now (bytes .entry)) highest (now (coords .entry)) (now (speeds .entry)) (now (blends .entry)) .blends ⌝ }
+    ensures { λ r. ⌜ SaysRead r (readPath (now (bytes .entry)) highest (λ k. stopsFit (stopCount k) (now (coords .entry)) (now (speeds .entry)) (now (blends .entry)))) ⌝ }
 {
     let head = judge_head(bytes, highest);
     let refused = head.refused;

@@ -12,9 +12,11 @@ use stop::Stop;
 use stop::judge_stops;
 use stop::stop_at;
 ghost use mathlib.Core.Path.{_≡_};
+ghost use lib.ListN.{length};
+ghost use Rattle.base.specs.Size.{stopCount};
 ghost use Rattle.stop.specs.Lent.{lentStops};
 ghost use Rattle.path.specs.Path.{pathSize};
-ghost use Rattle.path.specs.Written.{losesField, losesAny, writeNumber, writeCall};
+ghost use Rattle.path.specs.Written.{losesField, losesAny, writeNumber, writeCall, pathBytes, SaysWritten};
 
 // Whether a version lacks a field of a stop that is not 0.
 fn loses_field(version: u16, s: Stop) -> bool
@@ -87,6 +89,7 @@ pub fn write_path(
 ) -> PathWritten
     ensures { λ r. ⌜ r ≡ writeCall version k (now (coords .entry)) (now (speeds .entry)) (now (blends .entry)) (now (out .entry)) .answer ⌝ }
     ensures { λ r. ⌜ now (out .exit) ≡ writeCall version k (now (coords .entry)) (now (speeds .entry)) (now (blends .entry)) (now (out .entry)) .out ⌝ }
+    ensures { λ r. ⌜ SaysWritten r (writeNumber version k (now (coords .entry)) (now (speeds .entry)) (now (blends .entry)) (length (now (out .entry)))) (pathBytes version k (lentStops (stopCount k) (now (coords .entry)) (now (speeds .entry)) (now (blends .entry)))) ⌝ }
 {
     let refused = judge_write(version, k, coords, speeds, blends, out.len());
     if refused != 0 {

@@ -38,7 +38,7 @@ check-stops-requires c κs =
     let a = c .before .before .before .before .before .before .before .before .before .before .before .before .before .before .before .args in
     let r = c .before .before .before .before .before .before .before .before .before .read-path in
     (reading-small (a .path .now) (a .highest) _ _ _ (record { points = refl; paces = refl; rounds = refl }) (r .result) (r .ensures .0) (r .last .1 .1 .0) (r .last .1 .1 .1 .0) (r .last .1 .1 .1 .1 .0)
-    (r .ensures .1 .0) (r .ensures .1 .1 .0) (r .ensures .1 .1 .1) (record { points = r .kept .1 .1 .0; paces = r .kept .1 .1 .1 .0; rounds = r .kept .1 .1 .1 .1 .0 }) _ _ (c .before .before .before .before .read .given .1)) .lent
+    (r .ensures .1 .0) (r .ensures .1 .1 .0) (r .ensures .1 .1 .1 .0) (record { points = r .kept .1 .1 .0; paces = r .kept .1 .1 .1 .0; rounds = r .kept .1 .1 .1 .1 .0 }) _ _ (c .before .before .before .before .read .given .1)) .lent
 
 enum-known-read-2 : tie.Need-enum-known-read-2
 enum-known-read-2 c = search needs
@@ -52,7 +52,7 @@ returns c =
     let r = c .before .before .before .before .before .before .before .before .before .before .read-path in
     kept _ (c .check-stops .ok) ∙ c .check-stops .ensures ∙ ap resultOf (check-done (a .path .now) (a .highest) _ _ _ _ _ (a .file .now)
     (reading-small (a .path .now) (a .highest) _ _ _ (record { points = refl; paces = refl; rounds = refl }) (r .result) (r .ensures .0) (r .last .1 .1 .0) (r .last .1 .1 .1 .0) (r .last .1 .1 .1 .1 .0)
-    (r .ensures .1 .0) (r .ensures .1 .1 .0) (r .ensures .1 .1 .1) (record { points = r .kept .1 .1 .0; paces = r .kept .1 .1 .1 .0; rounds = r .kept .1 .1 .1 .1 .0 }) _ _ (c .before .before .before .before .before .read .given .1)))
+    (r .ensures .1 .0) (r .ensures .1 .1 .0) (r .ensures .1 .1 .1 .0) (record { points = r .kept .1 .1 .0; paces = r .kept .1 .1 .1 .0; rounds = r .kept .1 .1 .1 .1 .0 }) _ _ (c .before .before .before .before .before .read .given .1)))
 
 returns-2 : tie.Need-returns-2
 unfolding checked resultOf

@@ -54,7 +54,7 @@ returns c =
     rw (kept (c .path-result .result) (c .path-result .ok), c .path-result .ensures)
     (rewrite-done (a .path .now) (a .highest) _ (a .version) _ _ _ _ (a .out .now) (w .last .1 .1 .1 .1 .1 .0) (w .result)
     (reading-small (a .path .now) (a .highest) _ _ _ (record { points = refl; paces = refl; rounds = refl }) (r .result) (r .ensures .0) (r .last .1 .1 .0) (r .last .1 .1 .1 .0) (r .last .1 .1 .1 .1 .0)
-    (r .ensures .1 .0) (r .ensures .1 .1 .0) (r .ensures .1 .1 .1) (record { points = r .kept .1 .1 .0; paces = r .kept .1 .1 .1 .0; rounds = r .kept .1 .1 .1 .1 .0 }) _ _ (c .before .before .before .before .before .before .before .before .before .read .given .1)) (w .ensures .0) (w .ensures .1))
+    (r .ensures .1 .0) (r .ensures .1 .1 .0) (r .ensures .1 .1 .1 .0) (record { points = r .kept .1 .1 .0; paces = r .kept .1 .1 .1 .0; rounds = r .kept .1 .1 .1 .1 .0 }) _ _ (c .before .before .before .before .before .before .before .before .before .read .given .1)) (w .ensures .0) (w .ensures .1 .0))
 
 returns-2 : tie.Need-returns-2
 returns-2 c =

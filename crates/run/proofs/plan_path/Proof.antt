@@ -98,7 +98,7 @@ returns-2 c =
     let zero = sym (c .before .before .before .before .before .before .before .before .before .before .before .before .before .before .before .before .before .before .before .before .before .before .before .before .before .before .before .before .before .before .judge .ensures) ∙ c .before .before .before .before .before .before .before .before .before .before .before .before .before .before .before .before .before .before .before .before .before .before .before .before .before .before .before .before .before .if1 .left in
     let l = lent (c .before .before .before .before .before .before .before .before .before .before .before .before .before .before .before .before .before .before .before .before .before .before .before .before .before .before .before .before .before .before .before .before .before .before .before .before .before .before .before .before .before .before .before .before .before) in
     let whole = reading-whole (readCall b h (l .coords) (l .speeds) (l .blends)) (r .result) (r .last .1 .1 .0) (r .last .1 .1 .1 .0) (r .last .1 .1 .1 .1 .0)
-    (r .ensures .0) (r .ensures .1 .0) (r .ensures .1 .1 .0) (r .ensures .1 .1 .1) in
+    (r .ensures .0) (r .ensures .1 .0) (r .ensures .1 .1 .0) (r .ensures .1 .1 .1 .0) in
     let reading = rw (c .before .before .before .before .before .before .before .before .before .before .before .before .before .before .before .before .before .before .read .given .1) at whole in
     rw (c .answer .ensures)
     (path-planned b h _ _ (lent (c .before .before .before .before .before .before .before .before .before .before .before .before .before .before .before .before .before .before .before .before .before .before .before .before .before .before .before .before .before .before .before .before .before .before .before .before .before .before .before .before .before .before .before .before .before)) (r .last .1 .1 .0) (r .last .1 .1 .1 .0) (r .last .1 .1 .1 .1 .0) (p .last .1 .1 .1 .1 .0) (p .last .1 .1 .1 .1 .1 .0)
@@ -132,7 +132,7 @@ returns-3 c =
     let r = c .before .before .before .before .before .before .before .before .read-path in
     let e = r .ensures in
     let zero = sym (c .before .before .before .before .before .before .before .before .before .before .before .before .before .judge .ensures) ∙ c .before .before .before .before .before .before .before .before .before .before .before .before .if1 .left in
-    read-refuses b h (lent (c .before .before .before .before .before .before .before .before .before .before .before .before .before .before .before .before .before .before .before .before .before .before .before .before .before .before .before .before)) (r .result) (r .last .1 .1 .0) (r .last .1 .1 .1 .0) (r .last .1 .1 .1 .1 .0) _ zero (e .0) (e .1 .0) (e .1 .1 .0) (e .1 .1 .1) (c .before .read2 .given .1)
+    read-refuses b h (lent (c .before .before .before .before .before .before .before .before .before .before .before .before .before .before .before .before .before .before .before .before .before .before .before .before .before .before .before .before)) (r .result) (r .last .1 .1 .0) (r .last .1 .1 .1 .0) (r .last .1 .1 .1 .1 .0) _ zero (e .0) (e .1 .0) (e .1 .1 .0) (e .1 .1 .1 .0) (c .before .read2 .given .1)
 
 pub plan-path-spec : {M : Type 1} → statement M
 plan-path-spec =
