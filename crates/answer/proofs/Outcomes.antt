@@ -7,7 +7,8 @@ use native.Mathlib.Decide.{decLe}
 use native.Mathlib.Omega.{arith}
 use lib.Dec.{leb}
 use lib.IntN.{ℤ, pos, negℤ, natAbs}
-use lib.ListN.{length, replicate, length-append}
+use lib.ListN.{length, take, replicate, length-append}
+use lib.Seq.{take-at}
 use lib.Signed.{ltZ}
 use borrow.Author.Tests.{le-leb, lt-leb, ltb-true}
 use Rattle.records.specs.Field.{bytesOf}
@@ -16,6 +17,7 @@ use Rattle.records.specs.Record.{recordBytes}
 use Rattle.records.proofs.FieldLaws.{length-bytesOf}
 use Rattle.path.specs.Over.{over}
 use Rattle.path.specs.Path.{PathMeaning, path, noPath, readPath}
+use Rattle.path.proofs.OverLaws.{length-over}
 use Rattle.path.proofs.WrittenLaws.{put-over}
 use Rattle.orders.specs.Bits.{byteCount}
 use Rattle.order_file.specs.File.{fileSize}
@@ -77,6 +79,18 @@ refusal-below (suc n) h e = true≢false e
 count-above : (n : ℕ) → ltZ (pos n) (pos 0) ≡ true → ⊥
 count-above n e = let no : n < 0 = ltb-true n 0 e in omega arith
 
+-- an answer over the front of 162 bytes
+answers : (input bytes : List ℕ) (count : ℕ) → bytes ≡ over (answerTo input) (replicate 162 0) → count ≡ length (answerTo input) → count ≤ 162 → Answers input bytes count
+unfolding over
+answers input bytes count e s h =
+    let long : length (over (answerTo input) (replicate 162 0)) ≡ 162 = length-over (answerTo input) (replicate 162 0) (omega arith) in
+    record {
+      whole = e;
+      size = s;
+      front = ap (take count) e ∙ take-at (answerTo input) _ count (sym s);
+      within = rw (e, long) h;
+    }
+
 module _ (input out out′ : List ℕ) (r : ℤ) (room : length out ≡ 162) (p : CellPlans input programHighest out out′ r) where
   result-is : r ≡ resultOf (cellPlan input programHighest 162)
   result-is = p .result ∙ ap (λ m. resultOf (cellPlan input programHighest m)) room
@@ -107,12 +121,10 @@ module _ (input out out′ : List ℕ) (r : ℤ) (room : length out ≡ 162) (p 
       go (refused m) x y z w =
           let same : n ≡ m = size ∙ ap natAbs y ∙ size-neg m in
           let short : length (refusedBytes m) ≤ length out = rw (length-refused m, room) (omega arith) in
-          record {
-            whole = e ∙ ap (λ s. put s 0 (refusedBytes n)) z ∙ ap (λ s. put out 0 (refusedBytes s)) same ∙ put-over out (refusedBytes m) short ∙ ap (over (refusedBytes m)) zeros
-                ∙ ap (λ b. over b (replicate 162 0)) (sym w);
-            size = sym (ap length w ∙ length-refused m);
-            within = omega arith;
-          }
+          answers input after 6
+          (e ∙ ap (λ s. put s 0 (refusedBytes n)) z ∙ ap (λ s. put out 0 (refusedBytes s)) same ∙ put-over out (refusedBytes m) short ∙ ap (over (refusedBytes m)) zeros
+          ∙ ap (λ b. over b (replicate 162 0)) (sym w))
+          (sym (ap length w ∙ length-refused m)) (omega arith)
 
   -- another: the file is the answer
   pub answer-done : out ≡ replicate 162 0 → ltZ r (pos 0) ≡ false → (n : ℕ) → n ≡ natAbs r → Answers input out′ n
@@ -123,6 +135,6 @@ module _ (input out out′ : List ℕ) (r : ℤ) (room : length out ≡ 162) (p 
       go (done file) x y z w =
           let same : n ≡ length file = size ∙ ap natAbs y in
           let fits : length file ≤ 162 = plan-size input programHighest 162 file x in
-          record { whole = z ∙ ap (over file) zeros ∙ ap (λ b. over b (replicate 162 0)) (sym w); size = same ∙ sym (ap length w); within = omega arith }
+          answers input out′ n (z ∙ ap (over file) zeros ∙ ap (λ b. over b (replicate 162 0)) (sym w)) (same ∙ sym (ap length w)) (omega arith)
       go (refused m) x y z w =
           absurd (refusal-below m (plan-number input programHighest 162 m x .0) (subst (λ (s : ℤ). ltZ s (pos 0) ≡ false) y above))

@@ -2,7 +2,7 @@
 use mathlib.Core.Path.{_≡_}
 use mathlib.Core.List.{List}
 use Prim.Native.Nat.{ℕ, _≤_}
-use lib.ListN.{length, replicate}
+use lib.ListN.{length, take, replicate}
 use Rattle.records.specs.Field.{bytesOf}
 use Rattle.records.specs.Record.{recordBytes, refusedKind}
 use Rattle.path.specs.Over.{over}
@@ -31,4 +31,5 @@ answerTo input = answerOf (planned (readPath input programHighest cellTakes))
 pub record Answers (input bytes : List ℕ) (count : ℕ) : Type 0 where
   pub whole : bytes ≡ over (answerTo input) (replicate 162 0)
   pub size : count ≡ length (answerTo input)
-  pub within : count ≤ 162
+  pub front : take count bytes ≡ answerTo input
+  pub within : count ≤ length bytes
