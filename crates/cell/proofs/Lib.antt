@@ -5,3 +5,5 @@ pub mod Planning
 pub mod Reading
 pub mod Checking
 pub mod Rewriting
+pub mod Numbers
+pub mod Together

@@ -1,0 +1,3 @@
+-- Laws of the program's answer.
+pub mod Outcomes
+pub mod Longer

@@ -1,0 +1,2 @@
+-- The program's answer.
+pub mod Answers

@@ -1,0 +1,140 @@
+#!/usr/bin/env python3
+"""Makes the sample paths of examples/paths: NAME.path is read, and NAME.answer is what the program must write.
+
+The answers of good paths are found by trying every set of forks, which is feasible up to k = 3, or are known for another reason that
+stands beside them. Run it anywhere; it writes beside itself.
+"""
+import os
+import struct
+
+HERE = os.path.join(os.path.dirname(os.path.abspath(__file__)), "paths")
+
+
+def record(kind, content):
+    return struct.pack("<HH", len(content) + 2, kind) + content
+
+
+def head(version, k):
+    return record(1, struct.pack("<HH", version, k))
+
+
+def stop(version, x, y=0, z=0, speed=100, blend=0):
+    fields = struct.pack("<iiiH", x, y, z, speed)
+    return record(2, fields + (struct.pack("<H", blend) if version == 5 else b""))
+
+
+END = record(3, b"")
+
+
+def path(version, k, stops):
+    return head(version, k) + b"".join(stop(version, *s) for s in stops) + END
+
+
+def refused(number):
+    return record(7, struct.pack("<H", number))
+
+
+def time(a, b, stops):
+    far = max(abs(stops[b][i] - stops[a][i]) for i in range(3))
+    return -(-100 * far // stops[b][3])
+
+
+def order_of(k, forks):
+    """The stop in each place under a set of exchanged forks."""
+    n = 1 << k
+    order = [0] * n
+    for i in range(n):
+        place = 0
+        for h in range(k):
+            fork = (1 << h) + (i >> (k - h))
+            bit = i >> (k - 1 - h) & 1
+            place |= (bit ^ (forks >> fork & 1)) << (k - 1 - h)
+        order[place] = i
+    return order
+
+
+def total(order, stops):
+    return sum(time(a, b, stops) for a, b in zip(order, order[1:]))
+
+
+def order_file(k, stops, forks):
+    n = 1 << k
+    order = order_of(k, forks)
+    return (
+        record(4, struct.pack("<H", k))
+        + record(5, struct.pack("<Q", total(order, stops)) + struct.pack(f"<{n}H", *order))
+        + record(6, forks.to_bytes((n + 7) // 8, "little"))
+        + END
+    )
+
+
+def wanted(k, stops):
+    """The wanted set of forks: the least total, then the smaller stop at the first difference from the last place back."""
+    sets = range(0, 1 << (1 << k), 2)
+    return min(sets, key=lambda forks: (total(order_of(k, forks), stops), order_of(k, forks)[::-1]))
+
+
+def full(stops):
+    """Each stop with y, z, speed and blend."""
+    default = (0, 0, 0, 100, 0)
+    return [tuple(s) + default[len(s):] for s in stops]
+
+
+FIFTY = full([(0,), (30,), (10,), (20,)])
+ONE = full([(7, 8, 9, 10, 0)])
+EIGHT = full([(i * i * 37 % 101, i * 53 % 89, -i, 20 + i) for i in range(8)])
+BLENDED = full([(-20000, 0, 0, 1, 500), (20000, 0, 0, 2000, 1)])
+ALIKE = full([(5, 5, 5, 1)] * 64)
+
+
+def paths():
+    """The name of each sample, its bytes and the answer to it."""
+    for name, k, stops in [("one", 0, ONE), ("fifty", 2, FIFTY), ("eight", 3, EIGHT)]:
+        answer = order_file(k, stops, wanted(k, stops))
+        yield f"good-{name}-4", path(4, k, stops), answer
+        yield f"good-{name}-5", path(5, k, stops), answer
+    yield "good-blended-5", path(5, 1, BLENDED), order_file(1, BLENDED, wanted(1, BLENDED))
+    # all totals are 0, so the smallest stop is in the last place, and so on back: every fork is exchanged
+    yield "good-alike-4", path(4, 6, ALIKE), order_file(6, ALIKE, (1 << 64) - 2)
+    yield "good-alike-5", path(5, 6, ALIKE), order_file(6, ALIKE, (1 << 64) - 2)
+
+    fifty = path(4, 2, FIFTY)
+    five = path(5, 6, ALIKE)
+    yield "refused-1-empty", b"", refused(1)
+    yield "refused-1-three-bytes", fifty[:3], refused(1)
+    yield "refused-1-cut-head", fifty[:7], refused(1)
+    yield "refused-1-cut-stop", fifty[:-5], refused(1)
+    yield "refused-1-no-end", fifty[:-4], refused(1)
+    yield "refused-2-stop-of-5", head(4, 0) + stop(5, 1) + END, refused(2)
+    yield "refused-2-head", b"\x08\x00" + fifty[2:], refused(2)
+    yield "refused-2-end", fifty[:-4] + b"\x03\x00\x03\x00\x00", refused(2)
+    yield "refused-3-kind-9", b"\x06\x00\x09\x00" + fifty[4:], refused(3)
+    yield "refused-3-order-file", order_file(2, FIFTY, 6), refused(3)
+    yield "refused-3-end-early", head(4, 1) + stop(4, 1) + END, refused(3)
+    yield "refused-4-version-9", head(9, 0), refused(4)
+    yield "refused-4-version-3", path(3, 0, ONE), refused(4)
+    yield "refused-5-k-11", head(4, 11), refused(5)
+    yield "refused-5-k-65535", head(5, 65535), refused(5)
+    yield "refused-6-speed-0", path(4, 0, [(0, 0, 0, 0, 0)]), refused(6)
+    yield "refused-6-x-20001", path(4, 0, [(20001, 0, 0, 1, 0)]), refused(6)
+    yield "refused-6-blend-501", path(5, 0, [(0, 0, 0, 1, 501)]), refused(6)
+    yield "refused-7-one-byte", fifty + b"\x00", refused(7)
+    yield "refused-7-after-longest", five + b"\x00", refused(7)
+    yield "refused-7-long", five + bytes(5000), refused(7)
+    yield "refused-8-k-7", path(4, 7, full([(0,)] * 128)), refused(8)
+    yield "refused-8-k-10-head", head(5, 10), refused(8)
+
+
+def main():
+    os.makedirs(HERE, exist_ok=True)
+    for name in os.listdir(HERE):
+        if name.endswith((".path", ".answer")):
+            os.remove(os.path.join(HERE, name))
+    for name, given, answer in paths():
+        for suffix, content in ((".path", given), (".answer", answer)):
+            with open(os.path.join(HERE, name + suffix), "wb") as out:
+                out.write(content)
+
+
+if __name__ == "__main__":
+    main()
