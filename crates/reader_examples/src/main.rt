@@ -222,6 +222,28 @@ fn cursors() {
     from(28, 9);
 }
 
+// The last draws from a path of 1,024 stops: the first `length` bytes of these.
+fn largest(bytes: &[u8; 20493], length: usize) {
+    io::write_all(1, b"1024 stops, ");
+    show::number(length);
+    io::write_all(1, b" bytes:");
+    show::draws(front(bytes, length), 5, 1022, 1027);
+    io::write_all(1, b"\n");
+}
+
+// A path of 1,024 stops with speed 1 and zeros, good, cut and over-long.
+fn large() {
+    let coords = [0i32; 3072];
+    let speeds = [1u16; 1024];
+    let blends = [0u16; 1024];
+    let mut bytes = [0u8; 20493];
+    path::write_path(5, 10, &coords, &speeds, &blends, &mut bytes);
+    largest(&bytes, 20492);
+    largest(&bytes, 20493);
+    largest(&bytes, 20491);
+    largest(&bytes, 20487);
+}
+
 // The path cut at each length, and whole.
 fn cuts() {
     for length in 0..93 {
@@ -250,4 +272,5 @@ fn main() {
     versions(48, 6);
     versions(0, 6);
     cursors();
+    large();
 }

@@ -47,9 +47,9 @@ fn drawn(d: Drawn) {
     refusal(d.number);
 }
 
-// The first 7 draws.
-fn draws(bytes: &[u8], highest: u16) {
-    for d in 0..7 {
+// The draws from one number up to another.
+pub fn draws(bytes: &[u8], highest: u16, first: usize, end: usize) {
+    for d in first..end {
         drawn(reader::draw_number(bytes, highest, d));
     }
 }
@@ -81,7 +81,7 @@ pub fn both(bytes: &[u8], highest: u16) {
     let mut speeds = [0u16; 4];
     let mut blends = [0u16; 4];
     io::write_all(1, b"\n  draws:");
-    draws(bytes, highest);
+    draws(bytes, highest, 0, 7);
     io::write_all(1, b"\n  whole:");
     whole(bytes, highest, &mut coords, &mut speeds, &mut blends);
     io::write_all(1, b"\n");

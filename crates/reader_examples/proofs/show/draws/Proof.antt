@@ -5,10 +5,10 @@ use Rattle.reader_examples.proofs.show.draws.Statement.{statement}
 use Rattle.reader_examples.proofs.show.draws.Tie as tie
 
 abbrev Inv-loop : tie.InvT-loop
-Inv-loop bytes highest d₀ d = d ≤ 7
+Inv-loop bytes highest first end d₀ d = first ≤ d
 
 abbrev μ-loop : tie.MeasureT-loop
-μ-loop bytes highest d₀ d = 7 - d
+μ-loop bytes highest first end d₀ d = end - d
 
 loop-holds : tie.Need-loop-holds Inv-loop μ-loop
 loop-holds c = search needs
