@@ -8,7 +8,7 @@ pub use draws::draw_at;
 pub use draws::draw_number;
 use stop::Stop;
 ghost use mathlib.Core.Path.{_≡_};
-ghost use Rattle.reader.specs.Draws.{opened, nextStep, moved};
+ghost use Rattle.reader.specs.Draws.{stepAt, opened, nextStep, moved};
 
 // The verdict of an answer that is a stop.
 pub const A_STOP: u16 = 0;
@@ -60,4 +60,21 @@ pub fn draw<'s, 'a>(r: &'s mut Reader<'a>) -> Drawn
     r.at = step.at;
     r.version = step.version;
     step.drawn
+}
+
+// One draw by a reader that stands at a cursor, and where it stands then, for callers that hold no reader.
+pub fn draw_from(bytes: &[u8], at: usize, version: u16) -> Step
+    ensures { λ r. ⌜ r ≡ stepAt (now (bytes .entry)) at version ⌝ }
+{
+    let mut r = Reader {
+        src: bytes,
+        at,
+        version,
+    };
+    let drawn = draw(&mut r);
+    Step {
+        drawn,
+        at: r.at,
+        version: r.version,
+    }
 }

@@ -227,7 +227,7 @@ fn largest(bytes: &[u8; 20493], length: usize) {
     io::write_all(1, b"1024 stops, ");
     show::number(length);
     io::write_all(1, b" bytes:");
-    show::draws(front(bytes, length), 5, 1022, 1027);
+    show::numbered(front(bytes, length), 5, 1022, 1027);
     io::write_all(1, b"\n");
 }
 

@@ -47,8 +47,20 @@ fn drawn(d: Drawn) {
     refusal(d.number);
 }
 
+// The first 7 draws of a reader, one after another.
+fn draws(bytes: &[u8], highest: u16) {
+    let mut at = 0;
+    let mut version = highest;
+    for _d in 0..7usize {
+        let s = reader::draw_from(bytes, at, version);
+        drawn(s.drawn);
+        at = s.at;
+        version = s.version;
+    }
+}
+
 // The draws from one number up to another.
-pub fn draws(bytes: &[u8], highest: u16, first: usize, end: usize) {
+pub fn numbered(bytes: &[u8], highest: u16, first: usize, end: usize) {
     for d in first..end {
         drawn(reader::draw_number(bytes, highest, d));
     }
@@ -75,13 +87,15 @@ fn whole(bytes: &[u8], highest: u16, coords: &mut [i32], speeds: &mut [u16], ble
     }
 }
 
-// The draws, and under them the whole reading with places for 4 stops.
+// The draws of a reader, the same by their numbers, and under them the whole reading with places for 4 stops.
 pub fn both(bytes: &[u8], highest: u16) {
     let mut coords = [0i32; 12];
     let mut speeds = [0u16; 4];
     let mut blends = [0u16; 4];
     io::write_all(1, b"\n  draws:");
-    draws(bytes, highest, 0, 7);
+    draws(bytes, highest);
+    io::write_all(1, b"\n  by number:");
+    numbered(bytes, highest, 0, 7);
     io::write_all(1, b"\n  whole:");
     whole(bytes, highest, &mut coords, &mut speeds, &mut blends);
     io::write_all(1, b"\n");
@@ -89,7 +103,7 @@ pub fn both(bytes: &[u8], highest: u16) {
 
 // One draw from a cursor, and the cursor and the version that it leaves.
 pub fn step(bytes: &[u8], at: usize, version: u16) {
-    let s = reader::draw_at(bytes, at, version);
+    let s = reader::draw_from(bytes, at, version);
     io::write_all(1, b"cursor ");
     number(at);
     io::write_all(1, b", version ");

@@ -5,22 +5,22 @@ use Rattle.reader_examples.proofs.show.draws.Statement.{statement}
 use Rattle.reader_examples.proofs.show.draws.Tie as tie
 
 abbrev Inv-loop : tie.InvT-loop
-Inv-loop bytes highest first end d₀ d = first ≤ d
+Inv-loop bytes highest at₀ version₀ -d₀ at version -d = -d ≤ 7
 
 abbrev μ-loop : tie.MeasureT-loop
-μ-loop bytes highest first end d₀ d = end - d
+μ-loop bytes highest at₀ version₀ -d₀ at version -d = 7 - -d
 
 loop-holds : tie.Need-loop-holds Inv-loop μ-loop
 loop-holds c = search needs
 
-draw-number-requires : tie.Need-draw-number-requires Inv-loop μ-loop
-draw-number-requires c κs = search needs
+draw-from-requires : tie.Need-draw-from-requires Inv-loop μ-loop
+draw-from-requires c κs = search needs
 
 drawn-requires : tie.Need-drawn-requires Inv-loop μ-loop
 drawn-requires c κs = search needs
 
-add-d : tie.Need-add-d Inv-loop μ-loop
-add-d c = search needs
+add--d : tie.Need-add--d Inv-loop μ-loop
+add--d c = search needs
 
 loop-less : tie.Need-loop-less Inv-loop μ-loop
 loop-less c = search needs
@@ -38,9 +38,9 @@ draws-spec =
     Inv-loop
     μ-loop
     loop-holds
-    draw-number-requires
+    draw-from-requires
     drawn-requires
-    add-d
+    add--d
     loop-less
     loop-again
     returns)
