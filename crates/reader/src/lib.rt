@@ -1,7 +1,8 @@
 // Stops drawn one after another from the bytes of a path.
 //
-// No public function has a `requires`. What one draw gives is `stepAt` of `specs/Draws.antt`; that draw d from the start of some bytes is
-// `drawAt` of the paths' definitions is `draws-are` of `proofs/DrawsLaws.antt`.
+// No public function has a `requires`. What one draw gives, and where it leaves the cursor, is `stepAt` of `specs/Draws.antt`, for every
+// cursor, version and bytes. That draw d from the start of some bytes is `drawAt` of the paths' definitions is the law `draws-are`, that
+// an answer which is no stop is repeated is `draws-repeat` (`proofs/DrawsLaws.antt`), and `reader-draws` says it of a `Reader`.
 mod draws;
 
 pub use draws::draw_at;

@@ -31,7 +31,7 @@ use denote.Lend.{lends-ref, ref-back}
 use denote.Memory.{mem, cellAt, partAt, partOf}
 use denote.Plain.{uint-vals, uint-tells, uint-makes}
 use denote.Builtin.{u8, u16, usize}
-use denote.Ref.{RefT, NamedLft, MutRef}
+use denote.Ref.{RefT, MutRef}
 use denote.Signature.{plain}
 use denote.Slice.{sliceVal, ShrSlice, slice-vals, shr-slice-tells, shr-slice-lawful, shr-slice-copy}
 use denote.Steps.{only, owned, peeks, heard, nothing}
@@ -51,6 +51,7 @@ use Rattle.reader.specs.declared.Drawn.{Drawn}
 use Rattle.reader.specs.declared.Reader.{Reader}
 use Rattle.reader.specs.declared.Step.{Step}
 use Rattle.reader.specs.Draws.{nextStep, moved}
+use Rattle.reader.proofs.Values.{sval}
 use Rattle.reader.proofs.Drawn as D
 use Rattle.reader.proofs.Drawn.Laws as D′
 use Rattle.reader.proofs.Reader as T
@@ -68,13 +69,6 @@ use Rattle.reader.proofs.draw_from.Code as code
 
 abbrev stayed : Stays (draw-from.ended .signature .params) (draw-from.ended .kept)
 stayed = (stay-none-slice (0 ∷ []) tt (plain (λ _. u8)) yes, (stay-none (λ _. usize) yes, (stay-none (λ _. u16) yes, tt)))
-
--- the machine values of a step and of its answer
-abbrev sval : Step → Val
-sval r = LL.val S.the-type S′.the-laws r
-
-abbrev dval : Drawn → Val
-dval d = LL.val D.the-type D′.the-laws d
 
 module _ {M : Type 1} (𝓤 : URA M) (H : Heap 𝓤) (A : Atoms 𝓤) (mem : Memory → SProp 𝓤) (run : Routine → Fun 𝓤) where
   -- the contract that the proof cites
