@@ -14,7 +14,6 @@ use Rattle.path.specs.Path.{HeadRead, head, noHead, readHead, readBody, bodyNum
 use Rattle.path.specs.Draw.{Draw, drawn, ended, drawRefused, drawAt}
 use Rattle.path.proofs.DrawLaws.{Reached, reach-more, draw-head, draw-stop, draw-refused}
 use Rattle.reader.proofs.LastLaws.{draw-last}
-use Rattle.reader.specs.declared.Drawn.{Drawn}
 use Rattle.reader.specs.declared.Step.{Step}
 use Rattle.reader.specs.Draws.{drawAnswer, stopBefore, drawOr, drawOf, stepOf, stepAt, stepsFrom}
 use Rattle.reader.proofs.StepLaws.{rest-of, head-again, before-start, before-place, or-good, or-bad, of-stop, of-end, of-drawn, of-other, step-refused, step-head, step-stays}

@@ -1,17 +1,16 @@
 -- The last draw: after n good stops every draw is the end, or the refusal that the end record and what follows it give.
 use mathlib.Core.Path.{_≡_, refl, sym, ap, _∙_}
-use mathlib.Core.Bool.{Bool, true, false, cond}
-use mathlib.Core.List.{List, [], _∷_}
-use Prim.Native.Nat.{ℕ, zero, suc, _+_, _-_, _≤_, _<_}
+use mathlib.Core.Bool.{Bool, true, false}
+use mathlib.Core.List.{List}
+use Prim.Native.Nat.{ℕ, zero, suc, _-_, _≤_}
 use native.Mathlib.Nat.{sub-zero}
 use native.Mathlib.Omega.{arith}
-use lib.Dec.{eqb, ltb}
+use lib.Dec.{eqb}
 use lib.ListN.{length, drop}
 use borrow.Author.Tests.{eqb-true, eqb-false, le-ltb}
 use Rattle.base.specs.Size.{stopCount}
-use Rattle.stop.specs.declared.Stop.{Stop}
-use Rattle.path.specs.Path.{head, readHead, readBody, BodyRead, stops, noBody, bodyNumber, stopNumber, stopPlace, stopSize, withBody}
-use Rattle.path.specs.Draw.{Draw, ended, drawRefused, goodStops, drawnOf, lastDraw, drawAt}
+use Rattle.path.specs.Path.{head, readHead, readBody, BodyRead, bodyNumber, stopNumber, stopPlace, stopSize, withBody}
+use Rattle.path.specs.Draw.{ended, goodStops, drawnOf, lastDraw, drawAt}
 use Rattle.path.proofs.BodyLaws.{place-after, body-in, body-bad}
 use Rattle.path.proofs.DrawLaws.{Reached, goods-zero, goods-more, goods-none}
 use Rattle.path.proofs.PlaceLaws.{place-zero}

@@ -3,3 +3,4 @@ pub mod DrawsLaws
 mod LastLaws
 pub mod ReaderLaws
 pub mod StepLaws
+mod Values

@@ -1,12 +1,12 @@
 -- What a reader draws: one after another the draws that the bytes mean.
-use mathlib.Core.Path.{_≡_, refl, sym, ap, _∙_}
+use mathlib.Core.Path.{_≡_, refl, ap, _∙_}
 use mathlib.Core.List.{List}
 use Prim.Native.Nat.{ℕ, zero, suc}
 use denote.Ref.{RefT, now}
 use Rattle.path.specs.Draw.{drawAt}
 use Rattle.reader.specs.declared.Reader.{Reader}
 use Rattle.reader.specs.declared.Step.{Step}
-use Rattle.reader.specs.Draws.{drawAnswer, stepAt, stepsFrom, opened, nextStep, moved, afterDraws}
+use Rattle.reader.specs.Draws.{drawAnswer, stepAt, stepsFrom, opened, nextStep, afterDraws}
 use Rattle.reader.proofs.DrawsLaws.{draws-are}
 
 -- a reader keeps its bytes

@@ -1,8 +1,8 @@
 -- Laws of one draw: which part of the definition decides, and where it leaves the cursor.
-use mathlib.Core.Path.{_≡_, refl, ap, _∙_}
+use mathlib.Core.Path.{_≡_, refl}
 use mathlib.Core.Bool.{Bool, true, false, cond}
 use mathlib.Core.List.{List}
-use Prim.Native.Nat.{ℕ, suc, _+_, _-_, _*_, _/_, _≤_, _<_}
+use Prim.Native.Nat.{ℕ, suc, _-_, _*_, _≤_, _<_}
 use native.Mathlib.Nat.{zero-div, mul-div-cancel}
 use native.Mathlib.Omega.{arith}
 use lib.Dec.{leb, ltb, eqb}
@@ -11,14 +11,11 @@ use borrow.Author.Tests.{leb-true, leb-false, ltb-true, lt-ltb, le-ltb, ne-eqb}
 use Rattle.base.specs.Size.{stopCount}
 use Rattle.base.proofs.Size.{stopCount-pow, stopCount-none, pow-le-1024}
 use Rattle.records.proofs.LengthLaws.{path-length}
-use Rattle.stop.specs.declared.Stop.{Stop}
-use Rattle.path.specs.Path.{HeadRead, head, noHead, readHead, headOf, headFields, knownVersion, readBody, bodyNumber, stopNumber, stopIn, stopPlace, stopSize}
+use Rattle.path.specs.Path.{HeadRead, head, noHead, readHead, headOf, knownVersion, readBody, bodyNumber, stopNumber, stopIn, stopPlace, stopSize}
 use Rattle.path.specs.Draw.{Draw, drawn, ended, drawRefused}
 use Rattle.path.proofs.HeadLaws.{Seen, good-head, bad-head, head-seen, fields-good}
-use Rattle.path.proofs.Inverse.{Opened, opened-of}
+use Rattle.path.proofs.Inverse.{opened-of}
 use Rattle.path.proofs.PlaceLaws.{size-range, place-is}
-use Rattle.reader.specs.declared.Drawn.{Drawn}
-use Rattle.reader.specs.declared.Step.{Step}
 use Rattle.reader.specs.Draws.{drawAnswer, stopBefore, drawOr, drawOf, stepOf, stepIn, stepAt}
 
 -- ---- an accepted head

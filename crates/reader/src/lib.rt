@@ -1,14 +1,15 @@
 // Stops drawn one after another from the bytes of a path.
 //
-// No public function has a `requires`. What one draw gives is `stepAt` of `specs/Draws.antt`; that draw d from the start of some bytes is
-// `drawAt` of the paths' definitions is `draws-are` of `proofs/DrawsLaws.antt`.
+// No public function has a `requires`. What one draw gives, and where it leaves the cursor, is `stepAt` of `specs/Draws.antt`, for every
+// cursor, version and bytes. That draw d from the start of some bytes is `drawAt` of the paths' definitions is the law `draws-are`, that
+// an answer which is no stop is repeated is `draws-repeat` (`proofs/DrawsLaws.antt`), and `reader-draws` says it of a `Reader`.
 mod draws;
 
 pub use draws::draw_at;
 pub use draws::draw_number;
 use stop::Stop;
 ghost use mathlib.Core.Path.{_≡_};
-ghost use Rattle.reader.specs.Draws.{opened, nextStep, moved};
+ghost use Rattle.reader.specs.Draws.{stepAt, opened, nextStep, moved};
 
 // The verdict of an answer that is a stop.
 pub const A_STOP: u16 = 0;
@@ -60,4 +61,21 @@ pub fn draw<'s, 'a>(r: &'s mut Reader<'a>) -> Drawn
     r.at = step.at;
     r.version = step.version;
     step.drawn
+}
+
+// One draw by a reader that stands at a cursor, and where it stands then, for callers that hold no reader.
+pub fn draw_from(bytes: &[u8], at: usize, version: u16) -> Step
+    ensures { λ r. ⌜ r ≡ stepAt (now (bytes .entry)) at version ⌝ }
+{
+    let mut r = Reader {
+        src: bytes,
+        at,
+        version,
+    };
+    let drawn = draw(&mut r);
+    Step {
+        drawn,
+        at: r.at,
+        version: r.version,
+    }
 }

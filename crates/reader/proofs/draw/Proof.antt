@@ -1,6 +1,6 @@
 -- `reader::draw` meets its contract: a walk of its MIR, by hand. The borrow is opened, the three fields are read, and `draw_at` is called on them; its cursor and version are stored in the struct's cell, and the borrow is closed at the moved reader.
 -- All that the proof knows of `draw_at` is that it meets its contract. The struct is Copy: of one copy of what it owns what src owns goes to the callee, and the other stays.
-use mathlib.Core.Path.{_≡_, refl, ap, subst}
+use mathlib.Core.Path.{_≡_, refl, ap}
 use Prim.Native.Nat.{ℕ, _<_, _^_}
 use mathlib.Core.List.{List, [], _∷_}
 use lib.Dec.{T as Holds}
@@ -44,10 +44,10 @@ use denote.Triple.Entry.{Vals, onEntry}
 use denote.Triple.Spec.{Meets, tripleOf}
 use denote.Triple.Table.{entered, cited}
 use denote.Triple.Walked.{says, Stays, stay-ref, walkOf, goes-ref, Walks, ends-at, walked, walk-meets}
-use Rattle.reader.specs.declared.Drawn.{Drawn}
 use Rattle.reader.specs.declared.Reader.{Reader}
 use Rattle.reader.specs.declared.Step.{Step}
 use Rattle.reader.specs.Draws.{nextStep, moved}
+use Rattle.reader.proofs.Values.{sval, dval}
 use Rattle.reader.proofs.Drawn as D
 use Rattle.reader.proofs.Drawn.Laws as D′
 use Rattle.reader.proofs.Reader as T
@@ -76,13 +76,6 @@ behind = plain (λ κs. T.the-row (namedLft 2 1 tt κs))
 
 abbrev stayed : Stays (draw.ended .signature .params) (draw.ended .kept)
 stayed = (stay-ref (0 ∷ []) tt behind, tt)
-
--- the machine values of a step and of its answer
-abbrev sval : Step → Val
-sval r = LL.val S.the-type S′.the-laws r
-
-abbrev dval : Drawn → Val
-dval d = LL.val D.the-type D′.the-laws d
 
 module _ {M : Type 1} (𝓤 : URA M) (H : Heap 𝓤) (A : Atoms 𝓤) (mem : Memory → SProp 𝓤) (run : Routine → Fun 𝓤) where
   -- the contract that the proof cites

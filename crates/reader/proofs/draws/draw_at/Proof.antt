@@ -8,17 +8,14 @@ use native.Mathlib.Numerals.{add-one}
 use native.Mathlib.Omega.{arith}
 use denote.Ref.{now}
 use lib.ListN.{drop}
-use Rattle.base.specs.Size.{stopCount}
 use Rattle.path.specs.declared.Head.{Head}
-use Rattle.path.specs.Path.{head, noHead, readHead, stopPlace, stopSize}
+use Rattle.path.specs.Path.{noHead, readHead, stopPlace, stopSize}
 use Rattle.path.specs.Reading.{headAnswer}
-use Rattle.path.specs.Draw.{drawRefused}
 use Rattle.path.proofs.HeadLaws.{answer-bad}
 use Rattle.path.proofs.JudgeLaws.{opened-by}
 use Rattle.path.proofs.PlaceLaws.{size-range, place-is}
 use Rattle.reader.specs.Draws.{drawAnswer, drawOf, stopBefore, stepOf, stepAt}
 use Rattle.reader.specs.declared.Drawn.{Drawn}
-use Rattle.reader.specs.declared.Step.{Step}
 use Rattle.reader.proofs.StepLaws.{drawn-below, count-small, of-drawn, of-other, step-refused, step-head}
 use borrow.Author.Needs.{needs}
 use Rattle.reader.proofs.draws.draw_at.Statement.{statement}

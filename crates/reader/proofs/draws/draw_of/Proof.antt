@@ -1,11 +1,8 @@
 -- `reader::draw_of` meets its contract: the record of stop i is judged, and from n on the end.
-use mathlib.Core.Path.{_≡_, sym, ap, _∙_}
+use mathlib.Core.Path.{sym, ap, _∙_}
 use Prim.Native.Nat.{ℕ, _≤_, _<_}
-use native.Mathlib.Omega.{arith}
 use denote.Ref.{now}
-use lib.ListN.{drop}
 use Rattle.base.specs.Size.{stopCount}
-use Rattle.path.specs.Path.{readBody, bodyNumber, stopPlace}
 use Rattle.path.specs.Draw.{drawn, drawRefused}
 use Rattle.reader.specs.Draws.{drawAnswer}
 use Rattle.reader.proofs.StepLaws.{or-good, or-bad, of-stop, of-end}

@@ -1,5 +1,5 @@
 -- `reader::stop_before` meets its contract: a cursor in the head stands at stop 0.
-use mathlib.Core.Path.{_≡_, sym, ap}
+use mathlib.Core.Path.{sym, ap}
 use Prim.Native.Nat.{ℕ, _-_, _/_}
 use native.Mathlib.Omega.{arith}
 use Rattle.path.proofs.PlaceLaws.{size-range}

@@ -1,0 +1,276 @@
+// Draws from good, cut, damaged and over-long paths beside the whole reading of the same bytes, also past the end. What it writes is
+// compared with `stdout`.
+mod show;
+
+// A path of version 5 of 4 stops, which differ in every field.
+fn good() -> [u8; 92] {
+    [
+        6,
+        0,
+        1,
+        0,
+        5,
+        0,
+        2,
+        0, // the head: version 5, k 2
+        18,
+        0,
+        2,
+        0,
+        0,
+        0,
+        0,
+        0,
+        1,
+        0,
+        0,
+        0,
+        2,
+        0,
+        0,
+        0,
+        100,
+        0,
+        0,
+        0, //
+        18,
+        0,
+        2,
+        0,
+        30,
+        0,
+        0,
+        0,
+        255,
+        255,
+        255,
+        255,
+        0,
+        0,
+        0,
+        0,
+        101,
+        0,
+        7,
+        0, //
+        18,
+        0,
+        2,
+        0,
+        32,
+        78,
+        0,
+        0,
+        224,
+        177,
+        255,
+        255,
+        0,
+        0,
+        0,
+        0,
+        1,
+        0,
+        244,
+        1, //
+        18,
+        0,
+        2,
+        0,
+        20,
+        0,
+        0,
+        0,
+        0,
+        0,
+        0,
+        0,
+        0,
+        0,
+        0,
+        0,
+        208,
+        7,
+        9,
+        0, //
+        2,
+        0,
+        3,
+        0,
+    ]
+}
+
+// The same as version 4, of 2 stops, with one byte after the end.
+fn older() -> [u8; 49] {
+    [
+        6,
+        0,
+        1,
+        0,
+        4,
+        0,
+        1,
+        0, // the head: version 4, k 1
+        16,
+        0,
+        2,
+        0,
+        0,
+        0,
+        0,
+        0,
+        1,
+        0,
+        0,
+        0,
+        2,
+        0,
+        0,
+        0,
+        100,
+        0, //
+        16,
+        0,
+        2,
+        0,
+        30,
+        0,
+        0,
+        0,
+        255,
+        255,
+        255,
+        255,
+        0,
+        0,
+        0,
+        0,
+        101,
+        0, //
+        2,
+        0,
+        3,
+        0,
+        0,
+    ]
+}
+
+// The first bytes of some, all of them where there are not so many.
+fn front(bytes: &[u8], length: usize) -> &[u8] {
+    if length <= bytes.len() {
+        &bytes[..length]
+    } else {
+        bytes
+    }
+}
+
+// The path cut at a length.
+fn cut(length: usize) {
+    let bytes = good();
+    io::write_all(1, b"cut at ");
+    show::number(length);
+    show::both(front(&bytes, length), 5);
+}
+
+// Draws from all of a path that may have been changed.
+fn all(bytes: &[u8; 92]) {
+    show::both(bytes, 5);
+}
+
+// The path with another value in one byte.
+fn damaged(at: usize, value: u8) {
+    let mut bytes = good();
+    if at < 92 {
+        bytes[at] = value;
+    }
+    io::write_all(1, b"byte ");
+    show::number(at);
+    io::write_all(1, b" is ");
+    show::number(value as usize);
+    all(&bytes);
+}
+
+// The path of version 4, of so many bytes, for a reader of versions up to `highest`.
+fn versions(length: usize, highest: u16) {
+    let bytes = older();
+    io::write_all(1, b"version 4, ");
+    show::number(length);
+    io::write_all(1, b" bytes, highest ");
+    show::number(highest as usize);
+    show::both(front(&bytes, length), highest);
+}
+
+// One draw from a cursor of the path, with any version.
+fn from(at: usize, version: u16) {
+    let bytes = good();
+    show::step(&bytes, at, version);
+}
+
+// Cursors that draws reach, and others.
+fn cursors() {
+    from(0, 5);
+    from(8, 5);
+    from(28, 5);
+    from(68, 5);
+    from(88, 5);
+    from(7, 5);
+    from(9, 5);
+    from(47, 5);
+    from(92, 5);
+    from(18446744073709551615, 5);
+    from(28, 4);
+    from(28, 9);
+}
+
+// The last draws from a path of 1,024 stops: the first `length` bytes of these.
+fn largest(bytes: &[u8; 20493], length: usize) {
+    io::write_all(1, b"1024 stops, ");
+    show::number(length);
+    io::write_all(1, b" bytes:");
+    show::numbered(front(bytes, length), 5, 1022, 1027);
+    io::write_all(1, b"\n");
+}
+
+// A path of 1,024 stops with speed 1 and zeros, good, cut and over-long.
+fn large() {
+    let coords = [0i32; 3072];
+    let speeds = [1u16; 1024];
+    let blends = [0u16; 1024];
+    let mut bytes = [0u8; 20493];
+    path::write_path(5, 10, &coords, &speeds, &blends, &mut bytes);
+    largest(&bytes, 20492);
+    largest(&bytes, 20493);
+    largest(&bytes, 20491);
+    largest(&bytes, 20487);
+}
+
+// The path cut at each length, and whole.
+fn cuts() {
+    for length in 0..93 {
+        cut(length);
+    }
+}
+
+// The path with 11 in each byte, one at a time.
+fn damages() {
+    for at in 0..92 {
+        damaged(at, 11);
+    }
+}
+
+fn main() {
+    cuts();
+    damages();
+    damaged(18, 1);
+    damaged(26, 0);
+    damaged(27, 255);
+    versions(48, 4);
+    versions(48, 5);
+    versions(49, 4);
+    versions(49, 5);
+    versions(48, 3);
+    versions(48, 6);
+    versions(0, 6);
+    cursors();
+    large();
+}
