@@ -347,6 +347,10 @@ fn two_in_the_stops() {
         b"\x0a\x09\x2c\x00\x2d\x00",
     );
     new(b"first speed 0, last stop missing", 5, 28, b"\x18\x00");
+}
+
+// Two faults at once, in the last stop and after it.
+fn two_at_the_end() {
     new(b"last blend 501, no end", 5, 48, b"\x2e\xf5\x2f\x01");
     new(
         b"last blend 501, end of kind 9",
@@ -371,4 +375,5 @@ pub fn run() {
     rooms();
     two_in_the_head();
     two_in_the_stops();
+    two_at_the_end();
 }

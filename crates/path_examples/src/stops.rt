@@ -98,6 +98,9 @@ fn moves() {
         spot(1, 1, 1, 7, 0),
         spot(2, -9, 3, 300, 0),
     );
+}
+
+fn other_moves() {
     moved(
         b"move, blends 500",
         spot(0, 0, 0, 1, 500),
@@ -139,4 +142,5 @@ fn moves() {
 pub fn run() {
     stops();
     moves();
+    other_moves();
 }
