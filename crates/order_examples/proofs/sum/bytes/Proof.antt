@@ -1,0 +1,50 @@
+-- `order_examples::sum::bytes` is safe and ends. The invariant: the index is within its bound.
+use Prim.Native.Nat.{_≤_, _-_}
+use borrow.Author.Needs.{needs}
+use Rattle.order_examples.proofs.sum.bytes.Statement.{statement}
+use Rattle.order_examples.proofs.sum.bytes.Tie as tie
+
+abbrev Inv-loop : tie.InvT-loop
+Inv-loop bytes sum₀ i₀ i-end sum i = i ≤ i-end
+
+abbrev μ-loop : tie.MeasureT-loop
+μ-loop bytes sum₀ i₀ i-end sum i = i-end - i
+
+loop-holds : tie.Need-loop-holds Inv-loop μ-loop
+loop-holds c = search needs
+
+shared-slice-read-wide8 : tie.Need-shared-slice-read-wide8 Inv-loop μ-loop
+shared-slice-read-wide8 c = search needs
+
+wide8-requires : tie.Need-wide8-requires Inv-loop μ-loop
+wide8-requires c κs = search needs
+
+more-requires : tie.Need-more-requires Inv-loop μ-loop
+more-requires c κs = search needs
+
+add-i : tie.Need-add-i Inv-loop μ-loop
+add-i c = search needs
+
+loop-less : tie.Need-loop-less Inv-loop μ-loop
+loop-less c = search needs
+
+loop-again : tie.Need-loop-again Inv-loop μ-loop
+loop-again c = search needs
+
+returns : tie.Need-returns Inv-loop μ-loop
+returns c = search needs
+
+pub bytes-spec : {M : Type 1} → statement M
+bytes-spec =
+    tie.close
+    (tie.spec
+    Inv-loop
+    μ-loop
+    loop-holds
+    shared-slice-read-wide8
+    wide8-requires
+    more-requires
+    add-i
+    loop-less
+    loop-again
+    returns)

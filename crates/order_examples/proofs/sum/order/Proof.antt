@@ -1,0 +1,54 @@
+-- `order_examples::sum::order` is safe and ends. The invariant: the index is within its bound.
+use Prim.Native.Nat.{_≤_, _-_}
+use borrow.Author.Needs.{needs}
+use Rattle.order_examples.proofs.sum.order.Statement.{statement}
+use Rattle.order_examples.proofs.sum.order.Tie as tie
+
+abbrev Inv-loop : tie.InvT-loop
+Inv-loop order sum₀ i₀ i-end sum i = i ≤ i-end
+
+abbrev μ-loop : tie.MeasureT-loop
+μ-loop order sum₀ i₀ i-end sum i = i-end - i
+
+loop-holds : tie.Need-loop-holds Inv-loop μ-loop
+loop-holds c = search needs
+
+mul-wide : tie.Need-mul-wide Inv-loop μ-loop
+mul-wide c = search needs
+
+shared-slice-read-wide : tie.Need-shared-slice-read-wide Inv-loop μ-loop
+shared-slice-read-wide c = search needs
+
+wide-requires : tie.Need-wide-requires Inv-loop μ-loop
+wide-requires c κs = search needs
+
+more-requires : tie.Need-more-requires Inv-loop μ-loop
+more-requires c κs = search needs
+
+add-i : tie.Need-add-i Inv-loop μ-loop
+add-i c = search needs
+
+loop-less : tie.Need-loop-less Inv-loop μ-loop
+loop-less c = search needs
+
+loop-again : tie.Need-loop-again Inv-loop μ-loop
+loop-again c = search needs
+
+returns : tie.Need-returns Inv-loop μ-loop
+returns c = search needs
+
+pub order-spec : {M : Type 1} → statement M
+order-spec =
+    tie.close
+    (tie.spec
+    Inv-loop
+    μ-loop
+    loop-holds
+    mul-wide
+    shared-slice-read-wide
+    wide-requires
+    more-requires
+    add-i
+    loop-less
+    loop-again
+    returns)

@@ -1,0 +1,22 @@
+-- `path_examples::large::table` is safe. The table's length is not counted out.
+use mathlib.Core.Path.{sym}
+use Prim.Native.Nat.{ℕ}
+use lib.ListN.{length-replicate}
+use borrow.Author.Needs.{needs}
+use Rattle.path_examples.proofs.large.table.Statement.{statement}
+use Rattle.path_examples.proofs.large.table.Tie as tie
+
+slice-aggregate-times : tie.Need-slice-aggregate-times
+slice-aggregate-times c = sym (length-replicate {0} {A = ℕ} 1048577 77)
+
+times-requires : tie.Need-times-requires
+times-requires c κs = search needs
+
+make-requires : tie.Need-make-requires
+make-requires c κs = search needs
+
+returns : tie.Need-returns
+returns c = search needs
+
+pub table-spec : {M : Type 1} → statement M
+table-spec = tie.close (tie.spec slice-aggregate-times times-requires make-requires returns)
