@@ -1,0 +1,115 @@
+/*
+ * The time and the stack of the controller's calls at k = 6: 64 stops from a fixed seed in version 5. The best time of many calls; the
+ * stack is that of a thread whose stack was filled with a pattern, less that of a thread which calls nothing.
+ */
+#define _POSIX_C_SOURCE 200809L
+#include "cell.h"
+
+#include <pthread.h>
+#include <stdio.h>
+#include <stdlib.h>
+#include <string.h>
+#include <time.h>
+
+#define STACK (256 * 1024)
+#define CALLS 2000
+
+static uint8_t path[CELL_MAX_PATH_SIZE];
+static uint8_t file[CELL_MAX_ORDER_FILE_SIZE];
+static uint8_t other[CELL_MAX_PATH_SIZE];
+
+/* Writes a number of some bytes, little-endian, and returns the place after it. */
+static uint8_t *put(uint8_t *at, uint32_t number, int width)
+{
+    for (int i = 0; i < width; i++)
+        *at++ = (uint8_t)(number >> (8 * i));
+    return at;
+}
+
+/* The path. */
+static void make_path(void)
+{
+    uint32_t seed = 1;
+    uint8_t *at = put(put(put(put(path, 6, 2), 1, 2), 5, 2), CELL_MAX_K, 2);
+    for (int i = 0; i < CELL_MAX_STOPS; i++) {
+        at = put(put(at, 18, 2), 2, 2);
+        for (int axis = 0; axis < 3; axis++) {
+            seed = seed * 1664525 + 1013904223;
+            at = put(at, (seed >> 8) % 40001 - 20000, 4);
+        }
+        at = put(put(at, 100 + (uint32_t)i, 2), (uint32_t)i, 2);
+    }
+    put(put(at, 2, 2), 3, 2);
+}
+
+static int64_t nothing(void) { return 0; }
+static int64_t plan(void) { return cell_plan(path, sizeof path, 5, file, sizeof file); }
+static int64_t check(void) { return cell_check(path, sizeof path, 5, file, sizeof file); }
+static int64_t rewrite(void) { return cell_rewrite(path, sizeof path, 5, 5, other, sizeof other); }
+
+struct job {
+    int64_t (*call)(void);
+    int64_t result;
+};
+
+/* One call in a thread. */
+static void *once(void *given)
+{
+    struct job *job = given;
+    job->result = job->call();
+    return NULL;
+}
+
+/* The bytes of stack that a thread with one call writes to. */
+static size_t stack_of(struct job *job)
+{
+    pthread_attr_t attributes;
+    pthread_t thread;
+    uint8_t *stack = aligned_alloc(4096, STACK);
+    if (!stack)
+        exit(1);
+    memset(stack, 0xA5, STACK);
+    if (pthread_attr_init(&attributes) || pthread_attr_setstack(&attributes, stack, STACK)
+        || pthread_create(&thread, &attributes, once, job) || pthread_join(thread, NULL))
+        exit(1);
+    size_t untouched = 0;
+    while (untouched < STACK && stack[untouched] == 0xA5)
+        untouched++;
+    free(stack);
+    return STACK - untouched;
+}
+
+/* The microseconds of the quickest of many calls. */
+static double time_of(struct job *job)
+{
+    double best = 1e9;
+    for (int i = 0; i < CALLS; i++) {
+        struct timespec from, to;
+        clock_gettime(CLOCK_THREAD_CPUTIME_ID, &from);
+        job->result = job->call();
+        clock_gettime(CLOCK_THREAD_CPUTIME_ID, &to);
+        double spent = (double)(to.tv_sec - from.tv_sec) * 1e6 + (double)(to.tv_nsec - from.tv_nsec) / 1e3;
+        if (spent < best)
+            best = spent;
+    }
+    return best;
+}
+
+int main(void)
+{
+    static const char *names[] = {"cell_plan", "cell_check", "cell_rewrite"};
+    struct job jobs[] = {{plan, 0}, {check, 0}, {rewrite, 0}};
+    struct job none = {nothing, 0};
+    make_path();
+    size_t least = stack_of(&none);
+    printf("\n## The controller's calls at k = 6\n\nThe best of %d calls, and the bytes of stack beyond those of a thread that calls nothing.\n\n", CALLS);
+    printf("| call | result | microseconds | bytes of stack |\n|---|---|---|---|\n");
+    for (int i = 0; i < 3; i++) {
+        double time = time_of(&jobs[i]);
+        size_t stack = stack_of(&jobs[i]) - least;
+        printf("| `%s` | %lld | %.1f | %zu |\n", names[i], (long long)jobs[i].result, time, stack);
+        if (jobs[i].result < 0)
+            return 1;
+    }
+    return 0;
+}
