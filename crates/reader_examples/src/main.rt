@@ -4,155 +4,22 @@ mod show;
 
 // A path of version 5 of 4 stops, which differ in every field.
 fn good() -> [u8; 92] {
-    [
-        6,
-        0,
-        1,
-        0,
-        5,
-        0,
-        2,
-        0, // the head: version 5, k 2
-        18,
-        0,
-        2,
-        0,
-        0,
-        0,
-        0,
-        0,
-        1,
-        0,
-        0,
-        0,
-        2,
-        0,
-        0,
-        0,
-        100,
-        0,
-        0,
-        0, //
-        18,
-        0,
-        2,
-        0,
-        30,
-        0,
-        0,
-        0,
-        255,
-        255,
-        255,
-        255,
-        0,
-        0,
-        0,
-        0,
-        101,
-        0,
-        7,
-        0, //
-        18,
-        0,
-        2,
-        0,
-        32,
-        78,
-        0,
-        0,
-        224,
-        177,
-        255,
-        255,
-        0,
-        0,
-        0,
-        0,
-        1,
-        0,
-        244,
-        1, //
-        18,
-        0,
-        2,
-        0,
-        20,
-        0,
-        0,
-        0,
-        0,
-        0,
-        0,
-        0,
-        0,
-        0,
-        0,
-        0,
-        208,
-        7,
-        9,
-        0, //
-        2,
-        0,
-        3,
-        0,
-    ]
+    let coords = [0, 1, 2, 30, -1, 0, 20000, -20000, 0, 20, 0, 0];
+    let speeds = [100, 101, 1, 2000];
+    let blends = [0, 7, 500, 9];
+    let mut bytes = [0u8; 92];
+    path::write_path(5, 2, &coords, &speeds, &blends, &mut bytes);
+    bytes
 }
 
-// The same as version 4, of 2 stops, with one byte after the end.
+// Its first 2 stops as version 4, with one byte after the end.
 fn older() -> [u8; 49] {
-    [
-        6,
-        0,
-        1,
-        0,
-        4,
-        0,
-        1,
-        0, // the head: version 4, k 1
-        16,
-        0,
-        2,
-        0,
-        0,
-        0,
-        0,
-        0,
-        1,
-        0,
-        0,
-        0,
-        2,
-        0,
-        0,
-        0,
-        100,
-        0, //
-        16,
-        0,
-        2,
-        0,
-        30,
-        0,
-        0,
-        0,
-        255,
-        255,
-        255,
-        255,
-        0,
-        0,
-        0,
-        0,
-        101,
-        0, //
-        2,
-        0,
-        3,
-        0,
-        0,
-    ]
+    let coords = [0, 1, 2, 30, -1, 0];
+    let speeds = [100, 101];
+    let blends = [0, 0];
+    let mut bytes = [0u8; 49];
+    path::write_path(4, 1, &coords, &speeds, &blends, &mut bytes);
+    bytes
 }
 
 // The first bytes of some, all of them where there are not so many.
