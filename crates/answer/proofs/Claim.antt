@@ -3,7 +3,7 @@ use mathlib.Core.Path.{_≡_, refl, sym, ap, _∙_}
 use mathlib.Core.List.{List}
 use Prim.Native.Nat.{ℕ}
 use native.Mathlib.Omega.{arith}
-use lib.ListN.{length, take}
+use lib.ListN.{length}
 use lib.Seq.{take-length}
 use Rattle.path.specs.Path.{PathMeaning, path, noPath, readPath}
 use Rattle.times.specs.Table.{entryOf}
@@ -11,7 +11,7 @@ use Rattle.tree.specs.Total.{total}
 use Rattle.tree.specs.Wanted.{wanted}
 use Rattle.tree.proofs.Wanted.{wanted-shortest}
 use Rattle.run.proofs.Meaning.{read-same}
-use Rattle.cell.specs.Outcome.{Outcome, done, cellTakes}
+use Rattle.cell.specs.Outcome.{done, cellTakes}
 use Rattle.cell.specs.Plan.{planned, wantedFile, Carries}
 use Rattle.answer.specs.Answers.{programHighest, answerOf, answerTo}
 
