@@ -1,8 +1,8 @@
 -- More bytes than the longest accepted path cannot change the answer: the program reads one byte more than that and no further.
-use mathlib.Core.Path.{_≡_, refl, sym, ap, _∙_}
-use mathlib.Core.Bool.{Bool, true}
+use mathlib.Core.Path.{_≡_, ap}
+use mathlib.Core.Bool.{true}
 use mathlib.Core.List.{List}
-use Prim.Native.Nat.{ℕ, suc, _+_, _*_, _^_, _≤_, _<_}
+use Prim.Native.Nat.{ℕ, _*_, _≤_}
 use native.Mathlib.Decide.{decLe}
 use native.Mathlib.Nat.{le-trans, mul-le-mul-left, mul-le-mul-right}
 use native.Mathlib.Omega.{arith}
@@ -13,7 +13,7 @@ use Rattle.path.specs.Path.{readPath, pathSize, stopSize}
 use Rattle.path.proofs.PlaceLaws.{size-range}
 use Rattle.path.proofs.Prefix.{path-prefix}
 use Rattle.path.proofs.WrittenLaws.{size-is}
-use Rattle.cell.specs.Outcome.{cellMaxK, cellTakes}
+use Rattle.cell.specs.Outcome.{cellTakes}
 use Rattle.cell.specs.Plan.{planned}
 use Rattle.cell.proofs.Reading.{small-taken}
 use Rattle.cell.proofs.Taking.{count-small}

@@ -1,7 +1,7 @@
 -- The answer from a result of the controller's call: its sign tells a refusal, and its size is the number or the count.
 use mathlib.Core.Path.{_≡_, refl, sym, ap, subst, _∙_}
-use mathlib.Core.Bool.{Bool, true, false, true≢false, _&&_}
-use mathlib.Core.List.{List, _++_}
+use mathlib.Core.Bool.{true, false, true≢false, _&&_}
+use mathlib.Core.List.{List}
 use Prim.Native.Nat.{ℕ, zero, suc, _^_, _≤_, _<_}
 use native.Mathlib.Decide.{decLe}
 use native.Mathlib.Omega.{arith}
@@ -11,7 +11,6 @@ use lib.ListN.{length, take, replicate, length-append}
 use lib.Seq.{take-at}
 use lib.Signed.{ltZ}
 use borrow.Author.Tests.{le-leb, lt-leb, ltb-true}
-use Rattle.records.specs.Field.{bytesOf}
 use Rattle.records.specs.Put.{put}
 use Rattle.records.specs.Record.{recordBytes}
 use Rattle.records.proofs.FieldLaws.{length-bytesOf}
@@ -19,7 +18,6 @@ use Rattle.path.specs.Over.{over}
 use Rattle.path.specs.Path.{PathMeaning, path, noPath, readPath}
 use Rattle.path.proofs.OverLaws.{length-over}
 use Rattle.path.proofs.WrittenLaws.{put-over}
-use Rattle.orders.specs.Bits.{byteCount}
 use Rattle.order_file.specs.File.{fileSize}
 use Rattle.run.proofs.Meaning.{accepted}
 use Rattle.cell.specs.Outcome.{Outcome, done, refused, resultOf, leaves, cellMaxK, cellTakes}

@@ -1,6 +1,5 @@
 -- Checking for the controller keeps its promise: the table of a path's stops is made, and the file is judged by it.
 use mathlib.Core.Path.{_≡_, refl, sym, ap, _∙_}
-use mathlib.Core.Bool.{Bool, true, false, cond, _&&_}
 use mathlib.Core.List.{List, []}
 use Prim.Native.Nat.{ℕ, zero, suc, _*_, _^_, _≤_}
 use native.Mathlib.Omega.{arith}
@@ -10,16 +9,15 @@ use borrow.Author.Tests.{le-leb, eq-eqb}
 use Rattle.base.specs.Size.{maxK, stopCount}
 use Rattle.base.proofs.Size.{stopCount-pow}
 use Rattle.stop.specs.Lent.{lentStops, judgeLent, judgeAll}
-use Rattle.path.specs.Path.{noPath, path, readPath}
+use Rattle.path.specs.Path.{noPath, readPath}
 use Rattle.times.specs.declared.TableMade.{TableMade}
 use Rattle.times.specs.declared.TableMade.the-variants.{Made, Refused}
 use Rattle.times.specs.Table.{tableOf, judgeTable, answerOf, tableAfter, MadeTable}
-use Rattle.orders.specs.Call.{tableFits, orderFits, bitsFit}
 use Rattle.orders.specs.Bits.{byteCount}
 use Rattle.orders.proofs.Calls.{by-contents}
 use Rattle.order_file.specs.declared.FileRead.{FileRead}
 use Rattle.order_file.specs.Answer.{ReadPromise, readAnswer}
-use Rattle.order_file.specs.Reading.{judgeFile, readNumber, readRecords, totalSaid}
+use Rattle.order_file.specs.Reading.{judgeFile, readNumber}
 use Rattle.cell.specs.Outcome.{cellMaxK, cellTakes, outcomeOf, resultOf, checkResult}
 use Rattle.cell.specs.Check.{checked, cellCheck}
 use Rattle.cell.specs.Local.{SmallStops}

@@ -1,5 +1,5 @@
 -- The numbers of 'Turned down' go from 1 to 13, so the sign of a result tells a refusal.
-use mathlib.Core.Path.{_≡_, refl, sym, ap, subst, _∙_}
+use mathlib.Core.Path.{_≡_, refl, subst}
 use mathlib.Core.Bool.{Bool, true, false, cond, _&&_}
 use mathlib.Core.List.{List, []}
 use Prim.Native.Nat.{ℕ, zero, suc, _+_, _-_, _≤_}
@@ -12,7 +12,7 @@ use Rattle.records.specs.Record.{Taken, taken, refused, takeRecord, recordLengt
 use Rattle.stop.specs.declared.Stop.{Stop}
 use Rattle.stop.specs.Stop.{inRange}
 use Rattle.path.specs.Path.{HeadRead, head, noHead, headFields, headOf, readHead, knownVersion, BodyRead, stops, noBody, andStop, stopThen, endOf, readBody, stopOf, PathMeaning, path, noPath, withBody, readOn, readPath}
-use Rattle.cell.specs.Outcome.{Outcome, done, outcomeOf}
+use Rattle.cell.specs.Outcome.{outcomeOf}
 use Rattle.cell.specs.Outcome as outcome
 use Rattle.cell.specs.Plan.{planTakes, planned, cellPlan}
 use Rattle.cell.specs.Check.{checked, cellCheck}

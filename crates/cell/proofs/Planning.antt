@@ -1,13 +1,11 @@
 -- Planning for the controller keeps its promise: what the run left is the wanted order and its table, so writing the file cannot refuse.
 use mathlib.Core.Path.{_≡_, refl, sym, ap, ap₂, subst, _∙_}
-use mathlib.Core.Bool.{Bool, true, false, cond, _&&_}
-use mathlib.Core.List.{List, [], _∷_, _++_}
-use Prim.Native.Nat.{ℕ, zero, suc, _+_, _*_, _^_, _≤_, _<_}
+use mathlib.Core.List.{List, _++_}
+use Prim.Native.Nat.{ℕ, zero, suc, _*_, _^_, _≤_}
 use native.Mathlib.Omega.{arith}
-use lib.IntN.{ℤ, pos, negℤ}
-use lib.ListN.{length, getD, take, drop, length-append}
+use lib.IntN.{pos, negℤ}
+use lib.ListN.{length, take, drop, length-append}
 use lib.Seq.{take-at}
-use Rattle.base.specs.Size.{maxK, stopCount}
 use Rattle.base.proofs.Size.{stopCount-pow, pow-le-1024}
 use Rattle.stop.specs.declared.Stop.{Stop}
 use Rattle.path.specs.Over.{over}
@@ -20,24 +18,22 @@ use Rattle.tree.proofs.Diagonal.{total-same}
 use Rattle.tree.proofs.Theorem7.{theorem7}
 use Rattle.tree.proofs.Wanted.{wanted-allowed, length-wanted}
 use Rattle.orders.specs.Allowed.{judgeStops, forksOf}
-use Rattle.orders.specs.Call.{orderIn, valueOf, written, inSequence, orderFits, tableFits}
+use Rattle.orders.specs.Call.{orderIn, valueOf}
 use Rattle.orders.proofs.Allowed.{below-all, isAllowed-iff, judge-good}
 use Rattle.orders.proofs.Calls.{judge-contents, total-judged, written-good, value-bad, sequence-good}
 use Rattle.order_file.specs.declared.FileWritten.{FileWritten}
-use Rattle.order_file.specs.declared.FileWritten.the-variants as file-answer
 use Rattle.order_file.specs.Answer.{WritePromise, writeAnswer, valueOfWrite}
 use Rattle.order_file.specs.File.{orderFile, fileFor, fileSize}
 use Rattle.order_file.specs.Reading.{writeNumber}
 use Rattle.order_file.proofs.Bytes.{length-file}
 use Rattle.order_file.proofs.Outcome.{write-judged}
-use Rattle.run.specs.declared.PathPlanned.{PathPlanned}
 use Rattle.run.specs.declared.PathPlanned.the-variants.{Done, Refused}
 use Rattle.run.specs.Claim.{ShortestFor}
 use Rattle.run.specs.PathPlan.{Lent, runFits, runAnswer, runLeaves, runMeaning, PlansPath}
 use Rattle.run.proofs.Meaning.{GoodPath, path-good, path-fits}
 use Rattle.run.proofs.Claim.{table-times}
-use Rattle.cell.specs.Outcome.{Outcome, done, refused, resultOf, leaves, fileResult}
-use Rattle.cell.specs.Plan.{planTakes, wantedFile, planned, cellPlan, Carries, CellPlans}
+use Rattle.cell.specs.Outcome.{Outcome, done, resultOf, leaves, fileResult}
+use Rattle.cell.specs.Plan.{planTakes, wantedFile, planned, cellPlan, CellPlans}
 use Rattle.cell.proofs.Signed.{not-count}
 use Rattle.cell.proofs.Taking.{taken-plan}
 

@@ -1,6 +1,5 @@
 -- Rewriting for the controller keeps its promise: the stops that were read are in range and lent whole.
-use mathlib.Core.Path.{_≡_, refl, sym, ap, ap₂, _∙_}
-use mathlib.Core.Bool.{Bool, true, false, cond}
+use mathlib.Core.Path.{_≡_, refl, sym, ap, _∙_}
 use mathlib.Core.List.{List}
 use Prim.Native.Nat.{ℕ, zero, suc, _+_, _*_, _≤_}
 use native.Mathlib.Omega.{arith}
@@ -11,7 +10,7 @@ use Rattle.base.specs.Size.{maxK, stopCount}
 use Rattle.stop.specs.declared.Stop.{Stop}
 use Rattle.stop.specs.Lent.{lentStops, judgeLent, judgeAll}
 use Rattle.path.specs.declared.PathWritten.{PathWritten}
-use Rattle.path.specs.Path.{noPath, path, readPath, pathSize, stopSize}
+use Rattle.path.specs.Path.{noPath, readPath, pathSize, stopSize}
 use Rattle.path.specs.Written.{pathBytes, writeNumber, elseNext, writeAs, writeCall, writtenCount}
 use Rattle.path.proofs.WriteLaws.{write-done, write-refused, call-is}
 use Rattle.path.proofs.WrittenLaws.{length-written, size-is, bytes-range}

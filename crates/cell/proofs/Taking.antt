@@ -1,18 +1,18 @@
 -- Which k a call takes, and that the call's own buffers suffice for it.
-use mathlib.Core.Path.{_≡_, refl, sym, ap, _∙_}
-use mathlib.Core.Bool.{Bool, true, false, cond, _&&_}
+use mathlib.Core.Path.{_≡_, refl}
+use mathlib.Core.Bool.{Bool, true, false}
 use mathlib.Core.List.{List}
 use Prim.Native.Nat.{ℕ, _+_, _*_, _^_, _≤_, _<_}
 use native.Mathlib.Nat.{le-trans, mul-le-mul-left, mul-le-mul-right}
 use native.Mathlib.Omega.{arith}
-use lib.Dec.{leb, eqb}
+use lib.Dec.{leb}
 use lib.ListN.{length}
 use lib.Pow.{pow-mono}
 use borrow.Author.Tests.{le-leb, lt-leb, leb-true, eq-eqb}
 use Rattle.base.specs.Size.{stopCount}
 use Rattle.base.proofs.Size.{stopCount-pow}
 use Rattle.stop.specs.Lent.{stopsFit}
-use Rattle.path.specs.Path.{HeadRead, head, noHead, readHead, readOn, readPath, PathMeaning, noPath}
+use Rattle.path.specs.Path.{HeadRead, readHead, readOn, readPath}
 use Rattle.path.proofs.HeadLaws.{Seen, good-head, bad-head, head-seen}
 use Rattle.orders.proofs.Same.{both}
 use Rattle.order_file.specs.File.{fileSize}

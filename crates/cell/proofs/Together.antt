@@ -11,7 +11,6 @@ use lib.IntN.{ℤ, pos}
 use lib.ListN.{length, getD, take, List·getD-eq-default}
 use lib.Seq.{take-at}
 use borrow.Author.Tests.{le-leb}
-use Rattle.base.specs.Size.{maxK}
 use Rattle.base.proofs.Size.{stopCount-pow}
 use Rattle.stop.specs.declared.Stop.{Stop}
 use Rattle.stop.specs.Lent.{allInRange}

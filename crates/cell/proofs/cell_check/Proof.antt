@@ -1,5 +1,5 @@
 -- `cell::cell_check` meets its contract. Its parts are the laws of `Reading` and `Checking`.
-use mathlib.Core.Path.{_≡_, refl, sym, ap, _∙_}
+use mathlib.Core.Path.{refl, sym, ap, _∙_}
 use Rattle.cell.specs.Outcome.{resultOf}
 use Rattle.cell.specs.Check.{checked}
 use Rattle.cell.proofs.Signed.{kept}

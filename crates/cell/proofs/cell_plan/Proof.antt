@@ -1,6 +1,5 @@
 -- `cell::cell_plan` meets its contract.
-use mathlib.Core.Path.{_≡_, refl, sym, ap, _∙_}
-use Prim.Native.Nat.{ℕ, _≤_, _^_, _<_}
+use Prim.Native.Nat.{_≤_, _^_, _<_}
 use native.Mathlib.Omega.{arith}
 use lib.ListN.{length}
 use Rattle.base.proofs.Size.{stopCount-pow}

@@ -1,5 +1,5 @@
 -- `cell::cell_rewrite` meets its contract. Its parts are the laws of `Reading` and `Rewriting`.
-use mathlib.Core.Path.{_≡_, refl, sym, ap, _∙_}
+use mathlib.Core.Path.{refl}
 use Rattle.cell.proofs.Signed.{kept}
 use Rattle.cell.proofs.Reading.{reading-small, reading-refused}
 use Rattle.cell.proofs.Rewriting.{rewrite-small, rewrite-refused, rewrite-done}

@@ -1,5 +1,5 @@
 -- `cell::check::check_table` meets its contract.
-use mathlib.Core.Path.{_≡_, sym, ap, _∙_}
+use mathlib.Core.Path.{ap, _∙_}
 use mathlib.Core.List.{List, []}
 use Prim.Native.Nat.{ℕ}
 use Rattle.order_file.specs.Reading.{judgeFile}

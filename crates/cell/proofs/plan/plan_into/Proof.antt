@@ -1,5 +1,4 @@
 -- `cell::plan::plan_into` meets its contract. Its parts are the laws of `Planning`.
-use mathlib.Core.Path.{_≡_, sym, ap, _∙_}
 use Rattle.run.specs.PathPlan.{Lent}
 use Rattle.cell.proofs.Signed.{kept}
 use Rattle.cell.proofs.Planning.{write-small, plan-refused, plan-done}

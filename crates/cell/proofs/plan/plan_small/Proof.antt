@@ -1,11 +1,10 @@
 -- `cell::plan::plan_small` meets its contract.
 use mathlib.Core.Path.{_≡_, refl, sym, ap, _∙_}
-use Prim.Native.Nat.{ℕ, _≤_, _*_, _^_, _<_}
+use Prim.Native.Nat.{ℕ, _≤_, _*_}
 use native.Mathlib.Omega.{arith}
 use lib.ListN.{length}
 use lib.Seq.{length-take-le}
 use Rattle.base.specs.Size.{stopCount}
-use Rattle.run.specs.PathPlan.{Lent, runFits}
 use Rattle.cell.specs.Plan.{planTakes}
 use Rattle.cell.proofs.Taking.{taken-plan, count-small, square-small, run-fits, read-taken}
 use borrow.Author.Needs.{needs}

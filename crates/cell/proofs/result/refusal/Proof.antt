@@ -1,6 +1,5 @@
 -- `cell::result::refusal` meets its contract.
-use mathlib.Core.Path.{_≡_, ap, _∙_}
-use Prim.Native.Nat.{ℕ, _<_, _^_}
+use Prim.Native.Nat.{_<_, _^_}
 use native.Mathlib.Omega.{arith}
 use Rattle.cell.proofs.Signed.{from-zero, neg-fits, kept}
 use borrow.Author.Needs.{needs}
