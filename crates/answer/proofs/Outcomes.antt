@@ -19,7 +19,7 @@ use Rattle.path.specs.Path.{PathMeaning, path, noPath, readPath}
 use Rattle.path.proofs.OverLaws.{length-over}
 use Rattle.path.proofs.WrittenLaws.{put-over}
 use Rattle.order_file.specs.File.{fileSize}
-use Rattle.run.proofs.Meaning.{accepted}
+use Rattle.run.proofs.Meaning.{path-fits}
 use Rattle.cell.specs.Outcome.{Outcome, done, refused, resultOf, leaves, cellMaxK, cellTakes}
 use Rattle.cell.specs.Plan.{planTakes, wantedFile, planned, cellPlan, CellPlans}
 use Rattle.cell.proofs.Taking.{read-agree, stops-small, taken-plan}
@@ -52,7 +52,7 @@ plan-size input highest room file e = go (readPath input highest (planTakes room
     go : (m : PathMeaning) → readPath input highest (planTakes room) ≡ m → planned m ≡ done file → length file ≤ room
     go (path v k ss) h x =
         let y : wantedFile k ss ≡ file = cc in
-        let fits : fileSize (2 ^ k) ≤ room = taken-plan room k (accepted input highest (planTakes room) v k ss h .fits) .1 in
+        let fits : fileSize (2 ^ k) ≤ room = taken-plan room k (path-fits input highest (planTakes room) v k ss h) .1 in
         subst (λ f. length f ≤ room) y (rw (length-wantedFile k ss) fits)
     go (noPath n) h x = absurd (let z : _≡_ {A = ℕ} 0 1 = cc in omega arith)
 

@@ -24,7 +24,7 @@ use Rattle.tree.specs.Wanted.{wanted}
 use Rattle.tree.proofs.Wanted.{length-wanted}
 use Rattle.order_file.specs.Reading.{judgeFile}
 use Rattle.order_file.proofs.RoundTrip.{file-accepted}
-use Rattle.run.proofs.Meaning.{GoodPath, path-good, accepted, read-same}
+use Rattle.run.proofs.Meaning.{GoodPath, path-good, path-fits, read-same}
 use Rattle.cell.specs.Outcome.{Outcome, done, refused, outcomeOf, resultOf, leaves, cellMaxK, cellTakes}
 use Rattle.cell.specs.Plan.{planTakes, wantedFile, planned, cellPlan, CellPlans}
 use Rattle.cell.specs.Check.{checked, cellCheck}
@@ -75,7 +75,7 @@ check-planned bytes highest room file e = go (readPath bytes highest (planTakes 
     go : (m : PathMeaning) → readPath bytes highest (planTakes room) ≡ m → planned m ≡ done file → checked file (readPath bytes highest cellTakes) ≡ done []
     go (path v k ss) h x =
         let y : wantedFile k ss ≡ file = cc in
-        let fits : planTakes room k ≡ true = accepted bytes highest (planTakes room) v k ss h .fits in
+        let fits : planTakes room k ≡ true = path-fits bytes highest (planTakes room) v k ss h in
         let means : readPath bytes highest cellTakes ≡ path v k ss = read-same bytes highest (planTakes room) cellTakes v k ss h (takes-of k (taken-plan room k fits .0)) in
         ap (checked file) means ∙ ap (λ n. outcomeOf n []) (subst (λ f. judgeFile k (tableOf ss) f ≡ 0) y (wanted-good k ss (path-good bytes highest (planTakes room) v k ss h)))
     go (noPath n) h x = absurd (let z : _≡_ {A = ℕ} 0 1 = cc in omega arith)
