@@ -87,7 +87,7 @@ fn refused_records() {
     );
 }
 
-// Paths refused by 4 to 8.
+// Paths refused by 4 to 6.
 fn refused_contents() {
     show_answer(b"4, version 9", b"\x06\x00\x01\x00\x09\x00\x00\x00");
     show_answer(
@@ -111,6 +111,10 @@ fn refused_contents() {
         b"6, blend 501",
         b"\x06\x00\x01\x00\x05\x00\x00\x00\x12\x00\x02\x00\x00\x00\x00\x00\x00\x00\x00\x00\x00\x00\x00\x00\x01\x00\xf5\x01\x02\x00\x03\x00",
     );
+}
+
+// Paths refused by 7 and 8, and two faults at once.
+fn refused_sizes() {
     show_answer(
         b"7, a byte after the end",
         b"\x06\x00\x01\x00\x04\x00\x00\x00\x10\x00\x02\x00\x07\x00\x00\x00\x08\x00\x00\x00\x09\x00\x00\x00\x0a\x00\x02\x00\x03\x00\x00",
@@ -131,10 +135,12 @@ fn refused_contents() {
     );
 }
 
+// Every example, and every cut of one path.
 fn main() {
     good_paths();
     refused_records();
     refused_contents();
+    refused_sizes();
     show_cuts(
         b"\x06\x00\x01\x00\x04\x00\x00\x00\x10\x00\x02\x00\x07\x00\x00\x00\x08\x00\x00\x00\x09\x00\x00\x00\x0a\x00\x02\x00\x03\x00",
     );
