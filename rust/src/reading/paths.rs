@@ -1,0 +1,100 @@
+//! Document 01, 'Records' and 'Turned down': paths read and written.
+
+use super::{
+    records::{add, Due, Fields, Rest},
+    refusals::{put, require, BYTES_AFTER, LOST_BLEND, WRONG_SIZE, WRONG_VERSION},
+    stops::{check_stops, lent_stops, put_stops, stops_fit, Stop},
+    tree::count,
+};
+
+/// 'A path is kind 1, n of kind 2, kind 3.'
+pub(super) struct Path {
+    pub(super) version: u16,
+    pub(super) k: u16,
+    pub(super) stops: Vec<Stop>,
+}
+
+/// 'version not 4 or 5' is 4.
+pub(super) fn check_version(version: u16) -> Result<(), u16> {
+    require(version == 4 || version == 5, WRONG_VERSION)
+}
+
+/// 'x, y, z 4 bytes each, speed 2; in version 5 also blend 2'; 'Version 4 reads as blend 0.'
+fn stop_of(mut fields: Fields, version: u16) -> Stop {
+    let at = [fields.i32(), fields.i32(), fields.i32()];
+    let speed = fields.u16();
+    let blend = if version == 5 { fields.u16() } else { 0 };
+    Stop { at, speed, blend }
+}
+
+/// 'Reading: highest known version first. .. In the head: version, k, then lent lengths (8).' Then every stop's record and its fields (6),
+/// the end record, and 7 for 'bytes after the end record'. Adds each stop before the end or the first refused record to `stops`; gives the
+/// version and k. `fit` says of a k up to 10 whether what was lent suffices.
+pub(super) fn read_along(bytes: &[u8], highest: u16, fit: impl FnOnce(u16) -> bool, stops: &mut Vec<Stop>) -> Result<(u16, u16), u16> {
+    check_version(highest)?;
+    let mut rest = Rest(bytes);
+    let mut head = rest.record(Due::Path)?;
+    let (version, k) = (head.u16(), head.u16());
+    check_version(version)?;
+    require(version <= highest, WRONG_VERSION)?;
+    let n = count(k)?;
+    require(fit(k), WRONG_SIZE)?;
+    for _ in 0..n {
+        let stop = stop_of(rest.record(Due::Stop { version })?, version);
+        stop.check()?;
+        stops.push(stop);
+    }
+    rest.record(Due::End)?;
+    require(rest.0.is_empty(), BYTES_AFTER)?;
+    Ok((version, k))
+}
+
+impl Path {
+    /// A whole reading: the path that the bytes mean, or the refusal.
+    pub(super) fn read(bytes: &[u8], highest: u16, fit: impl FnOnce(u16) -> bool) -> Result<Path, u16> {
+        let mut stops = Vec::new();
+        let (version, k) = read_along(bytes, highest, fit, &mut stops)?;
+        Ok(Path { version, k, stops })
+    }
+
+    /// The end of writing a path: '13, output (8)'. 'A lent output needs as many places as its result has.' Gives the count of bytes.
+    pub(super) fn write(&self, out: &mut [u8]) -> Result<u64, u16> {
+        require(self.version == 5 || self.stops.iter().all(|stop| stop.blend == 0), LOST_BLEND)?;
+        let bytes = self.bytes();
+        require(out.len() >= bytes.len(), WRONG_SIZE)?;
+        put(&bytes, out);
+        Ok(bytes.len() as u64)
+    }
+
+    /// The path's records.
+    fn bytes(&self) -> Vec<u8> {
+        let mut file = Vec::new();
+        add(&mut file, Due::Path, &[&self.version.to_le_bytes(), &self.k.to_le_bytes()]);
+        for stop in &self.stops {
+            let [x, y, z] = stop.at.map(i32::to_le_bytes);
+            let (speed, blend) = (stop.speed.to_le_bytes(), stop.blend.to_le_bytes());
+            let fields: [&[u8]; 5] = [&x, &y, &z, &speed, &blend];
+            let count = if self.version == 5 { 5 } else { 4 };
+            add(&mut file, Due::Stop { version: self.version }, &fields[..count]);
+        }
+        add(&mut file, Due::End, &[]);
+        file
+    }
+}
+
+/// Reads a path into lent buffers; gives the version and k.
+pub fn read_path(bytes: &[u8], highest: u16, coords: &mut [i32], speeds: &mut [u16], blends: &mut [u16]) -> Result<(u16, u16), u16> {
+    let path = Path::read(bytes, highest, |k| stops_fit(1 << k, coords, speeds, blends))?;
+    put_stops(&path.stops, coords, speeds, blends);
+    Ok((path.version, path.k))
+}
+
+/// 'Writing a path: version, k, stops lent (8), 6 in stop order, 13, output (8).' Gives the count of bytes written.
+pub fn write_path(version: u16, k: u16, coords: &[i32], speeds: &[u16], blends: &[u16], out: &mut [u8]) -> Result<u64, u16> {
+    check_version(version)?;
+    let n = count(k)?;
+    require(stops_fit(n, coords, speeds, blends), WRONG_SIZE)?;
+    let stops = lent_stops(n, coords, speeds, blends);
+    check_stops(&stops)?;
+    Path { version, k, stops }.write(out)
+}
