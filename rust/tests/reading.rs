@@ -397,6 +397,30 @@ fn refusals_of_orders_with_tables() {
     assert_eq!(out, [77; 31]);
 }
 
+/// The table's call: k, lengths, then 6; only the first n stops are looked at.
+#[test]
+fn refusals_of_the_table() {
+    let faults: [fn(&mut Run); 6] = [
+        |run| run.coords[3] = 20_001,
+        |run| run.coords[5] = i32::MIN,
+        |run| run.speeds[1] = 0,
+        |run| run.speeds[0] = 2_001,
+        |run| run.blends[1] = 501,
+        |run| run.blends[0] = 65_535,
+    ];
+    for (place, fault) in faults.iter().enumerate() {
+        let mut run = Run::new(1);
+        (run.coords[6], run.speeds[2], run.blends[2]) = (20_001, 0, 501);
+        assert_eq!(run.clone().make(1), Ok(()));
+        fault(&mut run);
+        let before = run.clone();
+        assert_eq!(run.make(11), Err(WRONG_K));
+        assert_eq!(run.make(0), Err(WRONG_SIZE), "a table of 4 entries for one stop");
+        assert_eq!(run.make(1), Err(OUT_OF_RANGE), "fault {place}");
+        assert!(run == before, "a refusal wrote");
+    }
+}
+
 /// The refusal of an order file for the 50 example's path by both calls that read one; neither writes.
 fn file_refused(file: &[u8]) -> u16 {
     let (mut order, mut bits) = ([77; 5], [77; 2]);
