@@ -1,3 +1,2 @@
 -- Laws of the exported calls.
-pub mod Small
-pub mod Call
+pub mod AtMost

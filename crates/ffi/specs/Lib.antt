@@ -1,3 +1,3 @@
 -- The exported calls: answers as signed numbers.
 pub mod Signed
-pub mod Plan
+pub mod Results
