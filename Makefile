@@ -1,5 +1,5 @@
 # make run: prove the program, and run it on the 50 example.   make test: the whole gate.
-# make rust: the static library and what links it.   make rust-test: the comparisons from outside.   make bench: docs/BENCHMARK.md.
+# make rust: the static libraries and what links them.   make rust-test: the comparisons from outside.   make bench: docs/BENCHMARK.md.
 .PHONY: run test rust rust-test bench
 
 run:
@@ -14,6 +14,7 @@ test:
 
 rust:
 	rt staticlib ffi
+	rt staticlib cell
 	cd rust && cargo build --release --offline
 
 rust-test:
@@ -21,7 +22,6 @@ rust-test:
 
 bench: rust
 	rust/target/release/bench
-	rt staticlib cell
 	mkdir -p target/c
 	gcc -std=c11 -Wall -Wextra -Werror -O2 -pthread -Iinclude examples/c/measure.c target/staticlib/libcell.a -o target/c/measure
 	target/c/measure >>docs/BENCHMARK.md

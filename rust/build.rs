@@ -1,10 +1,12 @@
-//! Links the static library that `rt staticlib ffi` writes at the top of the repository.
+//! Links the static libraries that `rt staticlib` writes at the top of the repository: the exported calls, and the controller's.
 use std::{env, path::Path};
 
 fn main() {
     let here = env::var("CARGO_MANIFEST_DIR").expect("cargo names the manifest's folder");
     let archives = Path::new(&here).join("../target/staticlib");
     println!("cargo:rustc-link-search=native={}", archives.display());
-    println!("cargo:rustc-link-lib=static=ffi");
-    println!("cargo:rerun-if-changed={}", archives.join("libffi.a").display());
+    for name in ["ffi", "cell"] {
+        println!("cargo:rustc-link-lib=static={name}");
+        println!("cargo:rerun-if-changed={}", archives.join(format!("lib{name}.a")).display());
+    }
 }

@@ -1,10 +1,12 @@
 #!/usr/bin/env bash
-# Builds the static library and runs the comparisons against it. ROUNDS=10 runs ten times as many cases.
+# Builds the static libraries and runs the comparisons against them. ROUNDS=10 runs ten times as many cases.
 # With the word `valgrind` it runs a smaller number under valgrind instead.
 set -euo pipefail
 cd "$(dirname "$0")/.."
 mkdir -p target
-rt staticlib ffi >target/rust.log 2>&1 || { cat target/rust.log; exit 1; }
+for name in ffi cell; do
+    rt staticlib "$name" >target/rust.log 2>&1 || { cat target/rust.log; exit 1; }
+done
 cd rust
 if [ "${1:-}" = valgrind ]; then
     cargo build --release --offline --quiet --bin sample

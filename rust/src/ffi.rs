@@ -1,21 +1,53 @@
-//! The proved library's exported functions: each declared once and wrapped once in a safe function.
+//! The proved library's exported functions and the controller's three calls: each declared once and wrapped once in a safe function.
 //!
 //! A slice passes as a pointer and a length. Nothing checks a declaration against the Rattle source, so the tests run every call between
-//! guard pages too. A result below 0 is a refusal's number made negative.
+//! guard pages too. A result below 0 is a refusal's number made negative. No function has a `requires`; each reads the slices that are
+//! lent to it as constant and writes only within the others.
+
+use crate::reading::Stop;
 
 mod declared {
+    #[rustfmt::skip]
     extern "C" {
-        pub fn ffi_plan(
-            k: u16,
-            table: *const u32,
-            table_len: usize,
-            order: *mut u16,
-            order_len: usize,
-            totals: *mut u64,
-            totals_len: usize,
-            pivots: *mut u16,
-            pivots_len: usize,
+        pub fn ffi_read_path(
+            bytes: *const u8, bytes_len: usize, highest: u16,
+            coords: *mut i32, coords_len: usize, speeds: *mut u16, speeds_len: usize, blends: *mut u16, blends_len: usize,
         ) -> i64;
+        pub fn ffi_write_path(
+            version: u16, k: u16,
+            coords: *const i32, coords_len: usize, speeds: *const u16, speeds_len: usize, blends: *const u16, blends_len: usize,
+            out: *mut u8, out_len: usize,
+        ) -> i64;
+        pub fn ffi_make_table(
+            k: u16,
+            coords: *const i32, coords_len: usize, speeds: *const u16, speeds_len: usize, blends: *const u16, blends_len: usize,
+            table: *mut u32, table_len: usize,
+        ) -> i64;
+        pub fn ffi_plan(
+            k: u16, table: *const u32, table_len: usize,
+            order: *mut u16, order_len: usize, totals: *mut u64, totals_len: usize, pivots: *mut u16, pivots_len: usize,
+        ) -> i64;
+        pub fn ffi_plan_path(
+            bytes: *const u8, bytes_len: usize, highest: u16,
+            coords: *mut i32, coords_len: usize, speeds: *mut u16, speeds_len: usize, blends: *mut u16, blends_len: usize,
+            table: *mut u32, table_len: usize,
+            order: *mut u16, order_len: usize, totals: *mut u64, totals_len: usize, pivots: *mut u16, pivots_len: usize,
+        ) -> i64;
+        pub fn ffi_fork_bits(k: u16, order: *const u16, order_len: usize, bits: *mut u8, bits_len: usize) -> i64;
+        pub fn ffi_order_of_bits(k: u16, bits: *const u8, bits_len: usize, order: *mut u16, order_len: usize) -> i64;
+        pub fn ffi_order_total(k: u16, order: *const u16, order_len: usize, table: *const u32, table_len: usize) -> i64;
+        pub fn ffi_write_order_file(
+            k: u16, order: *const u16, order_len: usize, table: *const u32, table_len: usize, out: *mut u8, out_len: usize,
+        ) -> i64;
+        pub fn ffi_read_order_file(
+            k: u16, table: *const u32, table_len: usize, file: *const u8, file_len: usize,
+            order: *mut u16, order_len: usize, bits: *mut u8, bits_len: usize,
+        ) -> i64;
+        pub fn ffi_draw(bytes: *const u8, bytes_len: usize, highest: u16, d: usize) -> i64;
+        pub fn ffi_draw_field(bytes: *const u8, bytes_len: usize, highest: u16, d: usize, field: u16) -> i64;
+        pub fn cell_plan(path: *const u8, path_len: usize, highest: u16, out: *mut u8, out_len: usize) -> i64;
+        pub fn cell_check(path: *const u8, path_len: usize, highest: u16, file: *const u8, file_len: usize) -> i64;
+        pub fn cell_rewrite(path: *const u8, path_len: usize, highest: u16, version: u16, out: *mut u8, out_len: usize) -> i64;
     }
 }
 
@@ -28,20 +60,132 @@ fn answer(result: i64) -> Result<u64, u16> {
     }
 }
 
-/// `planner::plan`: the total of the order that was written, or the refusal's number.
+/// No result, or the refusal's number.
+fn done(result: i64) -> Result<(), u16> {
+    answer(result).map(|value| assert_eq!(value, 0))
+}
+
+/// A total, a version and k out of one number: k in 16 bits, the version in 4, the total above them.
+fn unpacked(value: u64) -> (u64, u16, u16) {
+    (value >> 20, (value >> 16 & 15) as u16, value as u16)
+}
+
+/// `path::read_path`: version and k.
+pub fn read_path(bytes: &[u8], highest: u16, coords: &mut [i32], speeds: &mut [u16], blends: &mut [u16]) -> Result<(u16, u16), u16> {
+    let (coords_len, speeds_len, blends_len) = (coords.len(), speeds.len(), blends.len());
+    let (coords, speeds, blends) = (coords.as_mut_ptr(), speeds.as_mut_ptr(), blends.as_mut_ptr());
+    let result = unsafe { declared::ffi_read_path(bytes.as_ptr(), bytes.len(), highest, coords, coords_len, speeds, speeds_len, blends, blends_len) };
+    answer(result).map(unpacked).map(|(_, version, k)| (version, k))
+}
+
+/// `path::write_path`: the count of bytes written.
+pub fn write_path(version: u16, k: u16, coords: &[i32], speeds: &[u16], blends: &[u16], out: &mut [u8]) -> Result<u64, u16> {
+    let (coords_len, speeds_len, blends_len) = (coords.len(), speeds.len(), blends.len());
+    let (coords, speeds, blends) = (coords.as_ptr(), speeds.as_ptr(), blends.as_ptr());
+    let (out, out_len) = (out.as_mut_ptr(), out.len());
+    answer(unsafe { declared::ffi_write_path(version, k, coords, coords_len, speeds, speeds_len, blends, blends_len, out, out_len) })
+}
+
+/// `times::make_table`.
+pub fn make_table(k: u16, coords: &[i32], speeds: &[u16], blends: &[u16], table: &mut [u32]) -> Result<(), u16> {
+    let (coords_len, speeds_len, blends_len) = (coords.len(), speeds.len(), blends.len());
+    let (coords, speeds, blends) = (coords.as_ptr(), speeds.as_ptr(), blends.as_ptr());
+    let (table, table_len) = (table.as_mut_ptr(), table.len());
+    done(unsafe { declared::ffi_make_table(k, coords, coords_len, speeds, speeds_len, blends, blends_len, table, table_len) })
+}
+
+/// `planner::plan`: the total of the order that was written.
 pub fn plan(k: u16, table: &[u32], order: &mut [u16], totals: &mut [u64], pivots: &mut [u16]) -> Result<u64, u16> {
-    // The function has no `requires`, reads `table` and writes only within the three lent slices.
-    answer(unsafe {
-        declared::ffi_plan(
-            k,
-            table.as_ptr(),
-            table.len(),
-            order.as_mut_ptr(),
-            order.len(),
-            totals.as_mut_ptr(),
-            totals.len(),
-            pivots.as_mut_ptr(),
-            pivots.len(),
+    let (order_len, totals_len, pivots_len) = (order.len(), totals.len(), pivots.len());
+    let (order, totals, pivots) = (order.as_mut_ptr(), totals.as_mut_ptr(), pivots.as_mut_ptr());
+    answer(unsafe { declared::ffi_plan(k, table.as_ptr(), table.len(), order, order_len, totals, totals_len, pivots, pivots_len) })
+}
+
+/// `run::plan_path`: version, k and the total.
+#[allow(clippy::too_many_arguments)]
+pub fn plan_path(
+    bytes: &[u8],
+    highest: u16,
+    coords: &mut [i32],
+    speeds: &mut [u16],
+    blends: &mut [u16],
+    table: &mut [u32],
+    order: &mut [u16],
+    totals: &mut [u64],
+    pivots: &mut [u16],
+) -> Result<(u16, u16, u64), u16> {
+    let (coords_len, speeds_len, blends_len, table_len) = (coords.len(), speeds.len(), blends.len(), table.len());
+    let (order_len, totals_len, pivots_len) = (order.len(), totals.len(), pivots.len());
+    let (coords, speeds, blends, table) = (coords.as_mut_ptr(), speeds.as_mut_ptr(), blends.as_mut_ptr(), table.as_mut_ptr());
+    let (order, totals, pivots) = (order.as_mut_ptr(), totals.as_mut_ptr(), pivots.as_mut_ptr());
+    #[rustfmt::skip]
+    let result = unsafe {
+        declared::ffi_plan_path(
+            bytes.as_ptr(), bytes.len(), highest, coords, coords_len, speeds, speeds_len, blends, blends_len,
+            table, table_len, order, order_len, totals, totals_len, pivots, pivots_len,
         )
+    };
+    answer(result).map(unpacked).map(|(total, version, k)| (version, k, total))
+}
+
+/// `orders::fork_bits`.
+pub fn fork_bits(k: u16, order: &[u16], bits: &mut [u8]) -> Result<(), u16> {
+    done(unsafe { declared::ffi_fork_bits(k, order.as_ptr(), order.len(), bits.as_mut_ptr(), bits.len()) })
+}
+
+/// `orders::order_of_bits`.
+pub fn order_of_bits(k: u16, bits: &[u8], order: &mut [u16]) -> Result<(), u16> {
+    done(unsafe { declared::ffi_order_of_bits(k, bits.as_ptr(), bits.len(), order.as_mut_ptr(), order.len()) })
+}
+
+/// `orders::order_total`: the total.
+pub fn order_total(k: u16, order: &[u16], table: &[u32]) -> Result<u64, u16> {
+    answer(unsafe { declared::ffi_order_total(k, order.as_ptr(), order.len(), table.as_ptr(), table.len()) })
+}
+
+/// `order_file::write_order_file`: the count of bytes written.
+pub fn write_order_file(k: u16, order: &[u16], table: &[u32], out: &mut [u8]) -> Result<u64, u16> {
+    let (out, out_len) = (out.as_mut_ptr(), out.len());
+    answer(unsafe { declared::ffi_write_order_file(k, order.as_ptr(), order.len(), table.as_ptr(), table.len(), out, out_len) })
+}
+
+/// `order_file::read_order_file`: the total.
+pub fn read_order_file(k: u16, table: &[u32], file: &[u8], order: &mut [u16], bits: &mut [u8]) -> Result<u64, u16> {
+    let (order_len, bits_len) = (order.len(), bits.len());
+    let (order, bits) = (order.as_mut_ptr(), bits.as_mut_ptr());
+    let result = unsafe {
+        declared::ffi_read_order_file(k, table.as_ptr(), table.len(), file.as_ptr(), file.len(), order, order_len, bits, bits_len)
+    };
+    answer(result)
+}
+
+/// `reader::draw_number`: a stop, the end, or the refusal. Where there is no stop every field is 0.
+pub fn draw_number(bytes: &[u8], highest: u16, d: usize) -> Result<Option<Stop>, u16> {
+    let field = |field: u16| unsafe { declared::ffi_draw_field(bytes.as_ptr(), bytes.len(), highest, d, field) };
+    let verdict = answer(unsafe { declared::ffi_draw(bytes.as_ptr(), bytes.len(), highest, d) });
+    if verdict == Ok(0) {
+        let at = [0, 1, 2].map(|axis| i32::try_from(field(axis)).expect("a coordinate has 32 bits"));
+        let [speed, blend] = [3, 4].map(|place| u16::try_from(field(place)).expect("a speed or a blend has 16 bits"));
+        return Ok(Some(Stop { at, speed, blend }));
+    }
+    assert!((0..5).all(|place| field(place) == 0), "a field beside the end or a refusal");
+    verdict.map(|value| {
+        assert_eq!(value, 1, "the end");
+        None
     })
+}
+
+/// The controller's call: the count of bytes of the order file, or a refusal as a negative number.
+pub fn cell_plan(path: &[u8], highest: u16, out: &mut [u8]) -> i64 {
+    unsafe { declared::cell_plan(path.as_ptr(), path.len(), highest, out.as_mut_ptr(), out.len()) }
+}
+
+/// The controller's call: 0, or a refusal as a negative number.
+pub fn cell_check(path: &[u8], highest: u16, file: &[u8]) -> i64 {
+    unsafe { declared::cell_check(path.as_ptr(), path.len(), highest, file.as_ptr(), file.len()) }
+}
+
+/// The controller's call: the count of bytes of the path, or a refusal as a negative number.
+pub fn cell_rewrite(path: &[u8], highest: u16, version: u16, out: &mut [u8]) -> i64 {
+    unsafe { declared::cell_rewrite(path.as_ptr(), path.len(), highest, version, out.as_mut_ptr(), out.len()) }
 }

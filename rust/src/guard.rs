@@ -11,7 +11,6 @@ mod declared {
     }
     // Linux on x86-64
     pub const NONE: c_int = 0;
-    pub const READ: c_int = 1;
     pub const READ_WRITE: c_int = 3;
     pub const PRIVATE_ANONYMOUS: c_int = 0x22;
 }
@@ -54,15 +53,6 @@ impl<T: Copy> Guarded<T> {
             std::ptr::copy_nonoverlapping(numbers.as_ptr(), at, numbers.len());
             Guarded { pages, bytes, at, length: numbers.len(), number: PhantomData }
         }
-    }
-
-    /// Makes the numbers read-only: a write stops the program.
-    pub fn read_only(self) -> Self {
-        let room = self.bytes - 2 * PAGE;
-        if room > 0 {
-            unsafe { assert_eq!(declared::mprotect(self.pages.cast::<u8>().add(PAGE).cast(), room, declared::READ), 0) }
-        }
-        self
     }
 }
 

@@ -1,11 +1,12 @@
 //! The planner against the independent reading of document 01.
 
 use evidence::{
+    calls::{by_library, compare, Call, Heap, Lent},
     cases::{any_set, any_table, planted, rounds, seeded, table},
     cubic,
-    lent::{compare, Lent},
     plain::{self, Checked, Columns, Pairs, Rows, Slices, Unchecked},
     reading::{allowed, by_enumeration, by_whole_tables, every_set, order_of, preferred, total},
+    world::{planner_lent, planner_suiting},
 };
 
 /// All allowed orders of 2^k stops.
@@ -13,15 +14,27 @@ fn every_order(k: u32) -> Vec<Vec<u16>> {
     every_set(k).map(|set| order_of(k, &set)).collect()
 }
 
+/// The planner gives this order and this total: 'After success each output holds the result first and is untouched beyond; the planner's
+/// work space holds 0 in the numbers named above and is untouched beyond.'
+fn gives(k: u16, lent: &Lent<Heap>, order: &[u16], total: u64) {
+    let n = order.len();
+    let mut due = lent.held(Heap);
+    due.order[..n].copy_from_slice(order);
+    due.totals[..2 * n].fill(0);
+    due.pivots[..2 * n].fill(0);
+    let mut got = lent.held(Heap);
+    assert_eq!(by_library(Call::Plan { k }, &mut got), Ok(vec![total as i64]));
+    assert_eq!(got.difference(&due), None, "k = {k}");
+}
+
 #[test]
 fn k_0_to_3_against_enumeration() {
     let mut random = seeded("k = 0 to 3");
     for k in 0..=3 {
-        let orders = every_order(k);
-        assert_eq!(orders.len(), 1 << ((1 << k) - 1));
-        for _ in 0..60_000 * rounds() {
-            let table = any_table(&mut random, k);
-            compare(k as u16, &table, Lent::suiting(&mut random, k), || by_enumeration(&table, &orders));
+        assert_eq!(every_order(k.into()).len(), 1 << ((1 << k) - 1));
+        for _ in 0..20_000 * rounds() {
+            let table = any_table(&mut random, k.into());
+            assert_eq!(compare(Call::Plan { k }, &planner_suiting(&mut random, k, &table)), 0);
         }
     }
 }
@@ -31,8 +44,8 @@ fn k_4_to_10_against_whole_tables() {
     let mut random = seeded("k = 4 to 10");
     for (k, count) in [(4, 9000), (5, 2500), (6, 500), (7, 120), (8, 50), (9, 15), (10, 5)] {
         for _ in 0..count * rounds() {
-            let table = any_table(&mut random, k);
-            compare(k as u16, &table, Lent::suiting(&mut random, k), || by_whole_tables(k, &table));
+            let table = any_table(&mut random, k.into());
+            assert_eq!(compare(Call::Plan { k }, &planner_suiting(&mut random, k, &table)), 0);
         }
     }
 }
@@ -42,11 +55,12 @@ fn totals_against_the_cubic_method() {
     let mut random = seeded("cubic method");
     for (k, count) in [(0, 10), (1, 100), (2, 500), (3, 500), (4, 500), (5, 200), (6, 40), (7, 6)] {
         for _ in 0..count * rounds() {
-            let table = any_table(&mut random, k);
-            let (order, sum) = cubic::plan(k, &table);
+            let table = any_table(&mut random, k.into());
+            let (order, sum) = cubic::plan(k.into(), &table);
             assert!(allowed(&order));
             assert_eq!(total(&table, &order), sum);
-            assert_eq!(Lent::suiting(&mut random, k).plan(k as u16, &table), Ok(sum));
+            let mut lent = planner_suiting(&mut random, k, &table);
+            assert_eq!(by_library(Call::Plan { k }, &mut lent), Ok(vec![sum as i64]));
         }
     }
 }
@@ -81,11 +95,10 @@ fn plain_planners_of_the_benchmark() {
     let mut random = seeded("plain planners");
     for (k, count) in [(0, 20), (1, 200), (2, 500), (3, 500), (4, 200), (5, 50), (6, 20), (8, 3)] {
         for _ in 0..count {
-            let table = any_table(&mut random, k);
-            let k = k as u16;
-            let before = Lent::suiting(&mut random, k.into());
-            let mut first = before.clone();
-            let answer = first.plan(k, &table);
+            let table = any_table(&mut random, k.into());
+            let before = planner_suiting(&mut random, k, &table);
+            let mut first = before.held(Heap);
+            let answer = by_library(Call::Plan { k }, &mut first);
             for planner in [
                 plain::plan::<Columns<Checked>>,
                 plain::plan::<Rows<Checked>>,
@@ -95,9 +108,10 @@ fn plain_planners_of_the_benchmark() {
                 plain::plan::<Rows<Unchecked>>,
                 plain::plan::<Pairs<Unchecked>>,
             ] {
-                let mut lent = before.clone();
-                assert_eq!(planner(k, &table, &mut lent.order, &mut lent.totals, &mut lent.pivots), answer);
-                assert!(lent == first);
+                let mut lent = before.held(Heap);
+                let given = planner(k, &table, &mut lent.order, &mut lent.totals, &mut lent.pivots);
+                assert_eq!(given.map(|total| vec![total as i64]), answer);
+                assert_eq!(lent.difference(&first), None);
             }
         }
     }
@@ -108,8 +122,8 @@ fn a_planted_order_at_every_k() {
     let mut random = seeded("planted order");
     for k in 1..=10 {
         for _ in 0..3 * rounds() {
-            let (table, order, sum) = planted(&mut random, k);
-            compare(k as u16, &table, Lent::suiting(&mut random, k), || (order, sum));
+            let (table, order, sum) = planted(&mut random, k.into());
+            gives(k, &planner_suiting(&mut random, k, &table), &order, sum);
         }
     }
 }
@@ -121,19 +135,20 @@ fn tables_full_of_ties_at_every_k() {
         let n = 1u16 << k;
         for entry in [0, 1, u32::MAX] {
             let table = vec![entry; n as usize * n as usize];
-            compare(k as u16, &table, Lent::suiting(&mut random, k), || ((0..n).rev().collect(), u64::from(n - 1) * u64::from(entry)));
+            let order: Vec<u16> = (0..n).rev().collect();
+            gives(k, &planner_suiting(&mut random, k, &table), &order, u64::from(n - 1) * u64::from(entry));
         }
     }
     // few different entries, at a large k: no allowed order near the answer is preferred to it
     let k = 10;
-    let table = table(&mut random, k, 2);
-    let mut lent = Lent::suiting(&mut random, k);
-    let sum = lent.plan(k as u16, &table).expect("the lengths suffice");
+    let table = table(&mut random, k.into(), 2);
+    let mut lent = planner_suiting(&mut random, k, &table);
+    let sum = by_library(Call::Plan { k }, &mut lent).expect("the lengths suffice")[0] as u64;
     let order = &lent.order[..1 << k];
     assert!(allowed(order));
     assert_eq!(total(&table, order), sum);
     for _ in 0..500 {
-        let other = order_of(k, &any_set(&mut random, k));
+        let other = order_of(k.into(), &any_set(&mut random, k.into()));
         assert!(!preferred((&other, total(&table, &other)), (order, sum)));
     }
 }
@@ -150,7 +165,7 @@ fn known_examples() {
     ];
     let mut random = seeded("known examples");
     for (k, table, order, sum) in examples {
-        compare(k, table, Lent::suiting(&mut random, k.into()), || (order.to_vec(), sum));
+        gives(k, &planner_suiting(&mut random, k, table), order, sum);
     }
 }
 
@@ -158,41 +173,41 @@ fn known_examples() {
 #[test]
 fn refusals() {
     let mut random = seeded("refusals");
-    for k in 0..=2u32 {
+    for k in 0..=2u16 {
         let n = 1usize << k;
-        let orders = every_order(k);
         for entries in 0..=n * n + 2 {
             let table: Vec<u32> = (0..entries).map(|_| random.below(4) as u32).collect();
             for order in 0..=n + 1 {
                 for totals in 0..=2 * n + 1 {
                     for pivots in 0..=2 * n + 1 {
-                        let lent = Lent::filled(&mut random, order, totals, pivots);
-                        compare(k as u16, &table, lent, || by_enumeration(&table, &orders));
+                        compare(Call::Plan { k }, &planner_lent(&mut random, &table, order, totals, pivots));
                     }
                 }
             }
         }
     }
-    for k in 3..=10u32 {
+    for k in 3..=10u16 {
         let n = 1usize << k;
-        let none = || unreachable!("the call is refused");
-        let good = table(&mut random, k, 4);
-        let short = |suffices: usize| (0..suffices).step_by(1 + suffices / 100).chain([suffices - 1]);
+        let good = table(&mut random, k.into(), 4);
+        let mut refused = |table: &[u32], order: usize, totals: usize, pivots: usize| {
+            assert_eq!(compare(Call::Plan { k }, &planner_lent(&mut random, table, order, totals, pivots)), 8);
+        };
+        let short = |suffices: usize| (0..suffices).step_by(1 + suffices / 20).chain([suffices - 1]);
         for order in short(n) {
-            compare(k as u16, &good, Lent::filled(&mut random, order, 2 * n, 2 * n), none);
+            refused(&good, order, 2 * n, 2 * n);
         }
         for work in short(2 * n) {
-            compare(k as u16, &good, Lent::filled(&mut random, n, work, 2 * n), none);
-            compare(k as u16, &good, Lent::filled(&mut random, n, 2 * n, work), none);
+            refused(&good, n, work, 2 * n);
+            refused(&good, n, 2 * n, work);
         }
         for entries in short(n * n).chain([n * n + 1, n * n + n, 2 * n * n]) {
             let wrong: Vec<u32> = good.iter().copied().cycle().take(entries).collect();
-            compare(k as u16, &wrong, Lent::filled(&mut random, n, 2 * n, 2 * n), none);
+            refused(&wrong, n, 2 * n, 2 * n);
         }
     }
     for k in 11..=u16::MAX {
         // 5 comes before 8
         let length = usize::from(k % 5);
-        compare(k, &[7; 4][..length.min(4)], Lent::filled(&mut random, length, 2 * length, length), || unreachable!("the call is refused"));
+        assert_eq!(compare(Call::Plan { k }, &planner_lent(&mut random, &[7; 4][..length.min(4)], length, 2 * length, length)), 5);
     }
 }
