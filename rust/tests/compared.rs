@@ -1,9 +1,10 @@
 //! Every public call and the controller's three against the independent reading: each answer, each number, each lent byte.
 
 use evidence::{
-    calls::{compare, Call, Heap, Lent},
+    calls::{by_library, compare, Call, Heap, Lent},
     cases::{rounds, seeded},
     damage::record_starts,
+    plain_path,
     random::Random,
     world::{each_case, World},
 };
@@ -55,6 +56,21 @@ fn every_call_with_faults() {
     }
     assert_eq!(seen.numbers("OrderOfBits"), [0, 5, 8, 12]);
     assert_eq!(seen.numbers("ReadOrderFile"), [0, 1, 2, 3, 5, 7, 8, 9, 10, 11, 12]);
+}
+
+/// The plain reader of the benchmark does the same work.
+#[test]
+fn plain_reader_of_the_benchmark() {
+    let mut random = seeded("plain reader");
+    for k in 0..=6 {
+        each_case(&mut random, k, 100, |call, lent| {
+            let Call::ReadPath { highest } = call else { return };
+            let (mut library, mut plain) = (lent.held(Heap), lent.held(Heap));
+            let answer = plain_path::read_path(&plain.bytes, highest, &mut plain.coords, &mut plain.speeds, &mut plain.blends);
+            assert_eq!(by_library(call, &mut library), answer.map(|(version, k)| vec![version.into(), k.into()]));
+            assert_eq!(library.difference(&plain), None);
+        });
+    }
 }
 
 /// The calls that read path bytes, and those that read an order file.

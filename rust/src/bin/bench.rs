@@ -1,11 +1,13 @@
 //! The benchmark: the proved planner against plain Rust of the same method, against the same loops without bounds checks, and against the
-//! cubic method. Same table, same process, buffers cleared before each run, runs interleaved, the best of many. Writes docs/BENCHMARK.md and
+//! cubic method; the proved path reader against a plain one. Same input, same process, buffers cleared before each run, runs interleaved, the best of many. Writes docs/BENCHMARK.md and
 //! docs/benchmark.svg.
 
 use evidence::{
     cubic, ffi,
     plain::{self, Checked, Columns, Pairs, Rows, Slices, Unchecked},
+    plain_path,
     random::Random,
+    world::World,
 };
 use std::{
     fmt::Write,
@@ -110,6 +112,42 @@ fn measure(k: u16, table: &[u32]) -> Measured {
     Measured { k, runs, planners, cubic: cubic.then_some(least) }
 }
 
+type PathReader = fn(&[u8], u16, &mut [i32], &mut [u16], &mut [u16]) -> Result<(u16, u16), u16>;
+
+/// The best times of reading one path, in microseconds: the proved reader's and the plain one's.
+fn measure_reading(path: &[u8], k: u16) -> [f64; 2] {
+    let n = 1usize << k;
+    let (mut coords, mut speeds, mut blends) = (vec![0i32; 3 * n], vec![0u16; n], vec![0u16; n]);
+    let readers: [PathReader; 2] = [ffi::read_path, plain_path::read_path];
+    let mut best = [f64::INFINITY; 2];
+    for _ in 0..2000 {
+        for (held, reader) in best.iter_mut().zip(readers) {
+            let time = timed(1024 >> k, || {
+                coords.fill(0);
+                speeds.fill(0);
+                blends.fill(0);
+                black_box(reader(black_box(path), 5, &mut coords, &mut speeds, &mut blends)).expect("a good path");
+            });
+            *held = held.min(time);
+        }
+    }
+    best
+}
+
+/// The table of path reading.
+fn reading(line: &mut impl FnMut(std::fmt::Arguments)) {
+    let mut random = Random::new(SEED);
+    line(format_args!("| k | version | bytes | proved | plain Rust | proved, MB/s | plain, MB/s | ratio of the times |"));
+    line(format_args!("|---|---|---|---|---|---|---|---|"));
+    for (k, version) in [(6, 4), (6, 5), (10, 4), (10, 5)] {
+        let world = std::iter::repeat_with(|| World::any(&mut random, k)).find(|world| world.version == version).expect("endless");
+        let bytes = world.path.len();
+        let [proved, plain] = measure_reading(&world.path, k);
+        let [fast, other] = [proved, plain].map(|time| bytes as f64 / time);
+        line(format_args!("| {k} | {version} | {bytes} | {proved:.2} | {plain:.2} | {fast:.0} | {other:.0} | {:.2} |", proved / plain));
+    }
+}
+
 /// The processor's name, as the system gives it.
 fn processor() -> String {
     let text = fs::read_to_string("/proc/cpuinfo").unwrap_or_default();
@@ -156,7 +194,11 @@ fn report(random: &[Measured], equal: &[Measured]) -> String {
     ratios(&mut line, equal);
     line(format_args!("\nA cost that grows as n² log n gives 4 (k / (k − 1)) in the last column: 4.7 at k = 7 and 4.4 at k = 10. At k = 9 and 10 the table (1 and 4"));
     line(format_args!("MB) no longer fits the nearer caches, and a column's entries lie 2 and 4 KB apart.\n"));
-    line(format_args!("![time by k](benchmark.svg)"));
+    line(format_args!("![time by k](benchmark.svg)\n"));
+    line(format_args!("## Reading a path\n"));
+    line(format_args!("`path::read_path` beside a plain reader that also judges the whole path before it stores a stop. Times in microseconds, and megabytes of"));
+    line(format_args!("path a second.\n"));
+    reading(&mut line);
     text
 }
 
