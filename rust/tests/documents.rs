@@ -1,5 +1,5 @@
-//! The worked bytes of docs/RECORDS.md, read from the document: every field that a line names is held to the bytes, and what the lines of
-//! a table mean together to what the library reads and writes.
+//! What the documents say, read from them. The worked bytes of docs/RECORDS.md: every field that a line names is held to the bytes, and what
+//! the lines of a table mean together to what the library reads and writes. The sizes and the refusals' names of docs/CALLS.md.
 
 use evidence::{ffi, reading};
 use std::{collections::BTreeMap, fs, path::Path};
@@ -43,9 +43,14 @@ fn fields(meaning: &str) -> BTreeMap<String, Vec<i64>> {
     named
 }
 
-/// The tables of bytes in the document, one after the other.
+/// The text of a file of the repository.
+fn text(name: &str) -> String {
+    fs::read_to_string(Path::new(env!("CARGO_MANIFEST_DIR")).join("..").join(name)).expect(name)
+}
+
+/// The tables of bytes in docs/RECORDS.md, one after the other.
 fn tables() -> Vec<Vec<Line>> {
-    let text = fs::read_to_string(Path::new(env!("CARGO_MANIFEST_DIR")).join("../docs/RECORDS.md")).expect("docs/RECORDS.md");
+    let text = text("docs/RECORDS.md");
     let mut tables = Vec::new();
     for line in text.lines() {
         if line == "| Bytes | Meaning |" {
@@ -118,4 +123,44 @@ fn worked_records() {
     is_order_file_of(order_4, path_4);
     assert_eq!(refused[0].bytes[4..], (refused[0].one("number") as u16).to_le_bytes());
     assert_eq!(refused[0].one("number"), i64::from(reading::OUT_OF_RANGE));
+}
+
+/// The cells of a document's table lines.
+fn cells(line: &str) -> Vec<&str> {
+    line.trim_matches('|').split('|').map(str::trim).collect()
+}
+
+#[test]
+fn sizes() {
+    let text = text("docs/CALLS.md");
+    let lines = text.lines().skip_while(|line| !line.starts_with("| k | n |")).skip(2).take_while(|line| line.starts_with('|'));
+    let mut k = 0;
+    for line in lines {
+        let said: Vec<u64> = cells(line).into_iter().map(|cell| cell.parse().expect("a number")).collect();
+        let n = 1usize << k;
+        let (coords, speeds, blends, table) = (vec![0; 3 * n], vec![1; n], vec![0; n], vec![0; n * n]);
+        let order: Vec<u16> = (0..n as u16).collect();
+        let path = |version| {
+            let size = said[if version == 4 { 2 } else { 3 }] as usize;
+            assert_eq!(ffi::write_path(version, k, &coords, &speeds, &blends, &mut vec![0; size - 1]), Err(reading::WRONG_SIZE));
+            ffi::write_path(version, k, &coords, &speeds, &blends, &mut vec![0; size])
+        };
+        let bits = said[5] as usize;
+        assert_eq!(ffi::fork_bits(k, &order, &mut vec![0; bits - 1]), Err(reading::WRONG_SIZE));
+        assert_eq!(ffi::fork_bits(k, &order, &mut vec![0; bits]), Ok(()));
+        let file = ffi::write_order_file(k, &order, &table, &mut vec![0; said[4] as usize]);
+        assert_eq!([Ok(k.into()), Ok(n as u64), path(4), path(5), file, Ok(bits as u64)].map(|size| size.expect("long enough")).to_vec(), said);
+        k += 1;
+    }
+    assert_eq!(k, 11, "a line for each k");
+}
+
+#[test]
+fn names_of_the_refusals() {
+    let (text, code) = (text("docs/CALLS.md"), text("crates/base/src/lib.rt"));
+    let lines = text.lines().skip_while(|line| !line.starts_with("| No. |")).skip(2).take_while(|line| line.starts_with('|'));
+    let said: Vec<String> = lines.map(|line| format!("pub const {}: u16 = {};", cells(line)[1].trim_matches('`'), cells(line)[0])).collect();
+    let written: Vec<&str> = code.lines().filter(|line| line.starts_with("pub const") && line.contains(": u16 = ")).collect();
+    assert_eq!(said.len(), 13);
+    assert_eq!(said, written);
 }
