@@ -127,3 +127,24 @@ module _ {n start m : ℕ} (a : Aligned n start m) (two : 0 < m) where
     starts = omega (arith, a .starts, twice, add-mul (2 * a .number) 1 (2 ^ (m - 1)), one-mul (2 ^ (m - 1)));
     inside = omega (arith, a .inside, pow-half m two);
   }
+
+-- the rows of a block of 2 or more places, as they are swept
+module _ {n left m : ℕ} (a : Aligned n left m) (two : 0 < m) where
+  -- the first is left in the even row
+  pub first-row-at : n - rowOf n (left + 1) ≡ 0
+  first-row-at = omega (arith, rowOf-odd n (left + 1) (omega (arith, aligned-even a two)))
+
+  -- the last in the odd one
+  pub last-row-at : {p : ℕ} → p ≡ left + 2 ^ m → n - rowOf n p ≡ n
+  last-row-at {p} e = let even : p % 2 ≡ 0 = omega (arith, aligned-even a two, pow-half m two) in omega (arith, rowOf-even n p even)
+
+-- the last row is that of the last place
+pub last-move : (left m : ℕ) {p : ℕ} → p ≡ left + 2 ^ m → p - (left + 1) ≡ 2 ^ m - 1
+last-move left m e = omega arith
+
+-- the middle place lies in the block
+pub middle-there : (left t m : ℕ) → t ≡ 2 ^ m → 1 ≤ left + t
+middle-there left t m e = omega (arith, pow-pos m)
+
+pub middle-in : (left t m : ℕ) → t ≡ 2 ^ m → left + t - 1 - left ≡ 2 ^ m - 1
+middle-in left t m e = omega (arith, pow-pos m)

@@ -1,12 +1,13 @@
 -- `planner::row::sweep` meets its contract. The loop's invariant: the row of the place before p is there.
 use mathlib.Core.Path.{_≡_, refl, sym, _∙_}
 use Prim.Native.Nat.{ℕ, _+_, _-_, _%_, _^_, _≤_}
+use native.Mathlib.Nat.{sub-self}
 use native.Mathlib.Omega.{arith}
 use lib.ListN.{length}
 use lib.Pow.{pow-pos}
 use Rattle.planner.specs.Row.{blockGraph, rowOf, Row}
 use Rattle.planner.proofs.Table.{sizes-small, sizes-with, sizes-order}
-use Rattle.planner.proofs.Blocks.{aligned-small, aligned-even, rowOf-odd, rowOf-even, rowOf-before, pow-half}
+use Rattle.planner.proofs.Blocks.{aligned-small, rowOf-before, pow-half, first-row-at, last-row-at, last-move, middle-there, middle-in}
 use Rattle.planner.proofs.Rows.{first-holds, row-held, row-at}
 use Rattle.planner.proofs.row.sweep.Statement.{statement}
 use Rattle.planner.proofs.row.sweep.Tie as tie
@@ -33,7 +34,7 @@ add-mid : tie.Need-add-mid Inv-loop μ-loop
 add-mid c = omega (arith, sizes-small (c .before .before .before .before .before .before .pre .0), c .before .before .before .before .before .before .pre .1 .0 .1 .inside, pow-half (c .before .before .before .before .before .before .args .m) (omega arith), c .two-to2 .ensures)
 
 sub-mid : tie.Need-sub-mid Inv-loop μ-loop
-sub-mid c = omega (arith, c .two-to2 .ensures, pow-pos (c .before .before .before .before .before .before .args .m - 1))
+sub-mid c = middle-there _ _ _ (c .two-to2 .ensures)
 
 first-row-requires : tie.Need-first-row-requires Inv-loop μ-loop
 first-row-requires c κs =
@@ -55,10 +56,7 @@ loop-holds c =
     let q = c .before .before .before .before .before .before .before .before .before .before .before .before .before .pre .1 .0 in
     let e = c .before .before .before .before .before .before .before .before .two-to .ensures in
     let f = c .before .before .before .before .before .before .before .two-to2 .ensures in
-    let pos = pow-pos (a .m) in
-    let zero-moves : a .left + 1 - (a .left + 1) ≡ 0 = omega arith in
-    let odd : (a .left + 1) % 2 ≡ 1 = omega (arith, aligned-even (q .1) (q .0)) in
-    let first : a .n - rowOf (a .n) (a .left + 1) ≡ 0 = omega (arith, rowOf-odd (a .n) (a .left + 1) odd) in (
+    let pos = pow-pos (a .m) in (
       omega arith,
       omega arith,
       refl,
@@ -66,7 +64,7 @@ loop-holds c =
       rw f,
       c .before .before .before .before .first-row .kept .1 .1 .1 .0 ∙ s .rows,
       c .before .before .before .before .first-row .kept .1 .1 .1 .1 .0 ∙ s .marks,
-      row-at refl (sym zero-moves) (sym first) refl
+      row-at refl (sym (sub-self (a .left + 1))) (sym (first-row-at (q .1) (q .0))) refl
           (first-holds (a .n) (a .table .now) (a .order .now) (a .left) (λ z. c .before .before .before .before .before .before .before .before .before .before .before .before .shared-slice-known .given z .fits) (c .before .before .before .before .first-row .last .1 .1 .1 .0)
           (c .before .before .before .before .first-row .last .1 .1 .1 .1 .0) (a .left + c .before .before .before .before .before .before .before .two-to2 .result - 1 - a .left) (a .base) (c .before .before .before .before .before .before .before .before .two-to .result)
           (λ i x y. c .before .before .before .before .before .before .before .before .before .before .before .before .before .pre .1 .1 .1 i x (omega arith)) (c .before .before .before .before .first-row .ensures .0) (c .before .before .before .before .first-row .ensures .1)),
@@ -123,15 +121,10 @@ returns : tie.Need-returns Inv-loop μ-loop
 returns c =
     let a = c .before .before .before .before .before .before .before .before .before .before .before .before .before .before .before .args in
     let q = c .before .before .before .before .before .before .before .before .before .before .before .before .before .before .before .pre .1 .0 in
-    let p : ℕ = c .before .loop .p in
+    let t = c .before .before .before .before .before .before .before .before .before .two-to2 in
     let inv = c .before .loop .inv in
-    let half = pow-half (a .m) (q .0) in
-    let pos = pow-pos (a .m - 1) in
-    let even : p % 2 ≡ 0 = omega (arith, aligned-even (q .1) (q .0)) in
-    let e : a .left + c .before .before .before .before .before .before .before .before .before .two-to2 .result - 1 - a .left ≡ 2 ^ (a .m - 1) - 1 = omega (arith, c .before .before .before .before .before .before .before .before .before .two-to2 .ensures) in
-    let f : p - (a .left + 1) ≡ 2 ^ a .m - 1 = omega arith in
-    let g : a .n - rowOf (a .n) p ≡ a .n = omega (arith, rowOf-even (a .n) p even) in
-    row-at e f g (inv .3) (inv .7)
+    let end : c .before .loop .p ≡ a .left + 2 ^ a .m = omega (arith, inv .3) in
+    row-at (middle-in (a .left) (t .result) (a .m - 1) (t .ensures)) (last-move (a .left) (a .m) end) (last-row-at (q .1) (q .0) end) (inv .3) (inv .7)
 
 pub sweep-spec : {M : Type 1} → statement M
 sweep-spec =
