@@ -1,10 +1,12 @@
 // Paths and a table for k = 10. Of long lists a sum is written in which each place counts.
 
-use crate::part;
-use crate::show;
-use crate::sum;
+use crate::coords;
 use path::PathRead;
 use path::PathWritten;
+use show::count;
+use show::part;
+use show::sum;
+use show::write;
 use times::TableMade;
 ghost use Prim.Native.Nat.{_<_};
 
@@ -71,17 +73,13 @@ fn put_path(bytes: &mut [u8], version: u16) {
     put16(bytes, place(version, 1024) + 2, 3);
 }
 
+// An accepted path: its version and k, and of each lent list its sum.
 fn write_read(version: u16, k: u16, coords: &[i32], speeds: &[u16], blends: &[u16]) {
-    io::write_all(1, b": 0, version ");
-    io::print_decimal(1, show::wide(version));
-    io::write_all(1, b", k ");
-    io::print_decimal(1, show::wide(k));
-    io::write_all(1, b", coordinates ");
-    io::print_decimal(1, sum::coords(coords));
-    io::write_all(1, b", speeds ");
-    io::print_decimal(1, sum::numbers(speeds));
-    io::write_all(1, b", blends ");
-    io::print_decimal(1, sum::numbers(blends));
+    write::value(b": 0, version ", show::wide(version));
+    write::value(b", k ", show::wide(k));
+    write::value(b", coordinates ", coords::total(coords));
+    write::value(b", speeds ", sum::numbers(speeds));
+    write::value(b", blends ", sum::numbers(blends));
     io::write_all(1, b"\n");
 }
 
@@ -98,10 +96,7 @@ fn read_into(
     match read {
         PathRead::Read { version, k } => write_read(version, k, coords, speeds, blends),
         PathRead::Refused(number) => {
-            let same = show::same_coords(coords);
-            let same = same && show::same_numbers(speeds);
-            let same = same && show::same_numbers(blends);
-            show::write_refusal(number, same);
+            write::refusal(number, coords::untouched(coords, speeds, blends))
         }
     }
 }
@@ -130,7 +125,7 @@ fn lent(name: &[u8], places: usize, speeds: usize, blends: usize) {
     let mut first = [77u16; 1024];
     let mut second = [77u16; 1024];
     put_path(&mut bytes, 5);
-    let coords = part::coords_mut(&mut coords, places);
+    let coords = coords::part_mut(&mut coords, places);
     let first = part::numbers_mut(&mut first, speeds);
     let second = part::numbers_mut(&mut second, blends);
     read_into(name, &bytes, coords, first, second)
@@ -146,18 +141,16 @@ fn write_lent(
     room: usize,
 ) {
     let mut all = [77u8; 20493];
-    let out = part::room(&mut all, room);
+    let out = part::bytes_mut(&mut all, room);
     io::write_all(1, name);
     let written = path::write_path(version, 10, coords, speeds, blends, out);
     match written {
         PathWritten::Wrote(count) => {
-            io::write_all(1, b": 0, bytes ");
-            io::print_decimal(1, count);
-            io::write_all(1, b", ");
-            io::print_decimal(1, sum::bytes(out));
+            write::value(b": 0, bytes ", count);
+            write::value(b", ", sum::bytes(out));
             io::write_all(1, b"\n");
         }
-        PathWritten::Refused(number) => show::write_refusal(number, show::same_bytes(out)),
+        PathWritten::Refused(number) => write::refusal(number, count::all_bytes(out, 77)),
     }
 }
 
@@ -187,18 +180,17 @@ fn make(name: &[u8], speed: u16, table: &mut [u32]) {
     let made = times::make_table(10, &coords, &speeds, &blends, table);
     match made {
         TableMade::Made => {
-            io::write_all(1, b": 0, times ");
-            io::print_decimal(1, sum::times(table));
+            write::value(b": 0, times ", sum::times(table));
             io::write_all(1, b"\n");
         }
-        TableMade::Refused(number) => show::write_refusal(number, show::same_times(table)),
+        TableMade::Refused(number) => write::refusal(number, count::all_times(table, 77)),
     }
 }
 
 // The same with a table of `size` places, at most 1048577.
 fn table(name: &[u8], speed: u16, size: usize) {
     let mut all = [77u32; 1048577];
-    make(name, speed, part::times(&mut all, size))
+    make(name, speed, part::times_mut(&mut all, size))
 }
 
 fn paths() {

@@ -1,6 +1,7 @@
 // Stops made, and the times of moves.
 
-use crate::show;
+use crate::coords;
+use show::write;
 use stop::MoveTime;
 use stop::Stop;
 
@@ -10,14 +11,10 @@ fn made(name: &[u8], x: i32, y: i32, z: i32, speed: u16, blend: u16) {
     let s = made.stop;
     let at = s.at;
     io::write_all(1, name);
-    io::write_all(1, b": ");
-    io::print_decimal(1, show::wide(made.refused));
-    io::write_all(1, b", stop");
-    show::write_coords(&at);
-    io::write_all(1, b" ");
-    io::print_decimal(1, show::wide(s.speed));
-    io::write_all(1, b" ");
-    io::print_decimal(1, show::wide(s.blend));
+    write::value(b": ", show::wide(made.refused));
+    coords::list(b", stop", &at);
+    write::number(show::wide(s.speed));
+    write::number(show::wide(s.blend));
     io::write_all(1, b"\n");
 }
 
@@ -34,14 +31,8 @@ fn moved(name: &[u8], from: Stop, to: Stop) {
     io::write_all(1, name);
     let time = stop::move_time(from, to);
     match time {
-        MoveTime::Takes(time) => {
-            io::write_all(1, b": 0, time");
-            show::write_times(&[time]);
-        }
-        MoveTime::Refused(number) => {
-            io::write_all(1, b": ");
-            io::print_decimal(1, show::wide(number));
-        }
+        MoveTime::Takes(time) => write::value(b": 0, time ", show::wide32(time)),
+        MoveTime::Refused(number) => write::value(b": ", show::wide(number)),
     }
     io::write_all(1, b"\n");
 }

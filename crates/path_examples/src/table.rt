@@ -1,7 +1,9 @@
 // Tables of travel times made: accepted, refused by each number, and with two faults at once.
 
-use crate::part;
-use crate::show;
+use crate::coords;
+use show::count;
+use show::part;
+use show::write;
 use times::TableMade;
 
 // Makes the table of these stops, and writes the answer.
@@ -10,11 +12,10 @@ fn make(name: &[u8], k: u16, coords: &[i32], speeds: &[u16], blends: &[u16], tab
     let made = times::make_table(k, coords, speeds, blends, table);
     match made {
         TableMade::Made => {
-            io::write_all(1, b": 0, times");
-            show::write_times(table);
+            write::times(b": 0, times", table);
             io::write_all(1, b"\n");
         }
-        TableMade::Refused(number) => show::write_refusal(number, show::same_times(table)),
+        TableMade::Refused(number) => write::refusal(number, count::all_times(table, 77)),
     }
 }
 
@@ -30,7 +31,7 @@ fn four(name: &[u8], k: u16, x: i32, blend: u16, size: usize) {
         &coords,
         &speeds,
         &blends,
-        part::times(&mut table, size),
+        part::times_mut(&mut table, size),
     )
 }
 
@@ -43,7 +44,7 @@ fn lent(name: &[u8], x: i32, places: usize, speeds: usize, blends: usize) {
     make(
         name,
         2,
-        part::coords(&coords, places),
+        coords::part(&coords, places),
         part::numbers(&first, speeds),
         part::numbers(&second, blends),
         &mut table,
@@ -71,7 +72,7 @@ fn one(name: &[u8], speed: u16, size: usize) {
         &coords,
         &speeds,
         &blends,
-        part::times(&mut table, size),
+        part::times_mut(&mut table, size),
     )
 }
 

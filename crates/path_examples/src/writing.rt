@@ -1,14 +1,15 @@
 // Paths written: accepted, refused by each number, and with two faults at once.
 
-use crate::part;
-use crate::show;
+use crate::coords;
 use path::PathWritten;
+use show::count;
+use show::part;
+use show::write;
 
+// A path that was written: how many bytes, and every lent place.
 fn write_written(count: u64, out: &[u8]) {
-    io::write_all(1, b": 0, bytes ");
-    io::print_decimal(1, count);
-    io::write_all(1, b",");
-    show::write_bytes(out);
+    write::value(b": 0, bytes ", count);
+    write::bytes(b",", out);
     io::write_all(1, b"\n");
 }
 
@@ -26,7 +27,7 @@ fn write_lent(
     let written = path::write_path(version, k, coords, speeds, blends, out);
     match written {
         PathWritten::Wrote(count) => write_written(count, out),
-        PathWritten::Refused(number) => show::write_refusal(number, show::same_bytes(out)),
+        PathWritten::Refused(number) => write::refusal(number, count::all_bytes(out, 77)),
     }
 }
 
@@ -49,10 +50,10 @@ fn lent(name: &[u8], x: i32, last: u16, places: usize, speeds: usize, blends: us
         name,
         5,
         1,
-        part::coords(&coords, places),
+        coords::part(&coords, places),
         part::numbers(&first, speeds),
         part::numbers(&second, blends),
-        part::room(&mut out, room),
+        part::bytes_mut(&mut out, room),
     )
 }
 
@@ -118,7 +119,7 @@ fn no_room(name: &[u8], version: u16) {
         &coords,
         &speeds,
         &blends,
-        part::room(&mut out, 0),
+        part::bytes_mut(&mut out, 0),
     )
 }
 

@@ -6,11 +6,11 @@ use borrow.Author.Needs.{needs}
 use Rattle.path_examples.proofs.large.table.Statement.{statement}
 use Rattle.path_examples.proofs.large.table.Tie as tie
 
-slice-aggregate-times : tie.Need-slice-aggregate-times
-slice-aggregate-times c = sym (length-replicate {0} {A = ℕ} 1048577 77)
+slice-aggregate-times-mut : tie.Need-slice-aggregate-times-mut
+slice-aggregate-times-mut c = sym (length-replicate {0} {A = ℕ} 1048577 77)
 
-times-requires : tie.Need-times-requires
-times-requires c κs = search needs
+times-mut-requires : tie.Need-times-mut-requires
+times-mut-requires c κs = search needs
 
 make-requires : tie.Need-make-requires
 make-requires c κs = search needs
@@ -19,4 +19,4 @@ returns : tie.Need-returns
 returns c = search needs
 
 pub table-spec : {M : Type 1} → statement M
-table-spec = tie.close (tie.spec slice-aggregate-times times-requires make-requires returns)
+table-spec = tie.close (tie.spec slice-aggregate-times-mut times-mut-requires make-requires returns)

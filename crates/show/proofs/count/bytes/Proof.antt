@@ -1,0 +1,69 @@
+-- `show::count::bytes` meets its contract. The invariant: the count so far, with that of the rest of the list, is that of the list.
+use Prim.Native.Nat.{_+_, _≤_, _-_}
+use mathlib.Core.Path.{_≡_}
+use borrow.Author.Needs.{needs}
+use lib.ListN.{drop}
+use Rattle.show.specs.Count.{countOf}
+use Rattle.show.proofs.Rest.{count-next, count-end}
+use Rattle.show.proofs.count.bytes.Statement.{statement}
+use Rattle.show.proofs.count.bytes.Tie as tie
+
+abbrev Inv-loop : tie.InvT-loop
+Inv-loop bytes value count₀ i₀ i-end count i = (i ≤ i-end) × ((count ≤ i) × (count + countOf value (drop i bytes) ≡ countOf value bytes))
+
+abbrev μ-loop : tie.MeasureT-loop
+μ-loop bytes value count₀ i₀ i-end count i = i-end - i
+
+loop-holds : tie.Need-loop-holds Inv-loop μ-loop
+loop-holds c = search needs
+
+wide8-requires : tie.Need-wide8-requires Inv-loop μ-loop
+wide8-requires c κs = search needs
+
+shared-slice-read-wide8 : tie.Need-shared-slice-read-wide8 Inv-loop μ-loop
+shared-slice-read-wide8 c = search needs
+
+wide8-requires-2 : tie.Need-wide8-requires-2 Inv-loop μ-loop
+wide8-requires-2 c κs = search needs
+
+one-requires : tie.Need-one-requires Inv-loop μ-loop
+one-requires c κs = search needs
+
+add-count : tie.Need-add-count Inv-loop μ-loop
+add-count c = search needs
+
+add-i : tie.Need-add-i Inv-loop μ-loop
+add-i c = search needs
+
+loop-less : tie.Need-loop-less Inv-loop μ-loop
+loop-less c = search needs
+
+loop-again : tie.Need-loop-again Inv-loop μ-loop
+loop-again c =
+    let test = c .before .before .before .before in (
+      search needs,
+      (
+        search needs,
+        count-next _ _ _ _ _ _ _ _ (test .loop-test .taken) (c .before .before .before .wide8 .ensures) (c .before .wide82 .ensures) (c .one .ensures .0) (test .before .loop .inv .1 .1),
+      ),
+    )
+
+returns : tie.Need-returns Inv-loop μ-loop
+returns c = count-end _ _ _ _ _ (c .loop-test .left) (c .before .loop .inv .1 .1)
+
+pub bytes-spec : {M : Type 1} → statement M
+bytes-spec =
+    tie.close
+    (tie.spec
+    Inv-loop
+    μ-loop
+    loop-holds
+    wide8-requires
+    shared-slice-read-wide8
+    wide8-requires-2
+    one-requires
+    add-count
+    add-i
+    loop-less
+    loop-again
+    returns)

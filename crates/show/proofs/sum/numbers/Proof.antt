@@ -1,0 +1,58 @@
+-- `show::sum::numbers` meets its contract. The invariant: the sum so far, with the rest of the list more, is that of the list.
+use Prim.Native.Nat.{_≤_, _-_}
+use mathlib.Core.Path.{_≡_}
+use borrow.Author.Needs.{needs}
+use lib.ListN.{drop}
+use Rattle.show.specs.Sum.{sumFrom}
+use Rattle.show.proofs.Rest.{sum-next, sum-end}
+use Rattle.show.proofs.sum.numbers.Statement.{statement}
+use Rattle.show.proofs.sum.numbers.Tie as tie
+
+abbrev Inv-loop : tie.InvT-loop
+Inv-loop numbers sum₀ i₀ i-end sum i = (i ≤ i-end) × (sumFrom sum (drop i numbers) ≡ sumFrom 0 numbers)
+
+abbrev μ-loop : tie.MeasureT-loop
+μ-loop numbers sum₀ i₀ i-end sum i = i-end - i
+
+loop-holds : tie.Need-loop-holds Inv-loop μ-loop
+loop-holds c = search needs
+
+mul-wide : tie.Need-mul-wide Inv-loop μ-loop
+mul-wide c = search needs
+
+shared-slice-read-wide : tie.Need-shared-slice-read-wide Inv-loop μ-loop
+shared-slice-read-wide c = search needs
+
+wide-requires : tie.Need-wide-requires Inv-loop μ-loop
+wide-requires c κs = search needs
+
+more-requires : tie.Need-more-requires Inv-loop μ-loop
+more-requires c κs = search needs
+
+add-i : tie.Need-add-i Inv-loop μ-loop
+add-i c = search needs
+
+loop-less : tie.Need-loop-less Inv-loop μ-loop
+loop-less c = search needs
+
+loop-again : tie.Need-loop-again Inv-loop μ-loop
+loop-again c = (search needs, sum-next _ _ _ _ _ _ (c .before .before .before .loop-test .taken) (c .before .wide .ensures) (c .more .ensures) (c .before .before .before .before .loop .inv .1))
+
+returns : tie.Need-returns Inv-loop μ-loop
+returns c = sum-end _ _ _ _ (c .loop-test .left) (c .before .loop .inv .1)
+
+pub numbers-spec : {M : Type 1} → statement M
+numbers-spec =
+    tie.close
+    (tie.spec
+    Inv-loop
+    μ-loop
+    loop-holds
+    mul-wide
+    shared-slice-read-wide
+    wide-requires
+    more-requires
+    add-i
+    loop-less
+    loop-again
+    returns)

@@ -1,0 +1,3 @@
+pub mod Change
+pub mod Count
+pub mod Sum
