@@ -1,10 +1,10 @@
--- `order_examples::part::fill_table` is safe and ends. The invariant: the index is within its bound, and the length is kept.
+-- `order_examples::known::fill` is safe and ends. The invariant: the index is within its bound, and the length is kept.
 use Prim.Native.Nat.{_≤_, _-_}
+use mathlib.Core.Path.{_≡_}
 use borrow.Author.Needs.{needs}
 use lib.ListN.{length}
-use mathlib.Core.Path.{_≡_}
-use Rattle.order_examples.proofs.part.fill_table.Statement.{statement}
-use Rattle.order_examples.proofs.part.fill_table.Tie as tie
+use Rattle.order_examples.proofs.known.fill.Statement.{statement}
+use Rattle.order_examples.proofs.known.fill.Tie as tie
 
 abbrev Inv-loop : tie.InvT-loop
 Inv-loop table₀ i₀ i-end table i = (i ≤ i-end) × (length table ≡ length table₀)
@@ -39,8 +39,8 @@ same-length c = search needs
 returns : tie.Need-returns Inv-loop μ-loop
 returns c = search needs
 
-pub fill-table-spec : {M : Type 1} → statement M
-fill-table-spec =
+pub fill-spec : {M : Type 1} → statement M
+fill-spec =
     tie.close
     (tie.spec
     Inv-loop
