@@ -1,17 +1,7 @@
 // The answer to many byte strings, a line each: the bytes that the program writes for it, in hexadecimal.
 use answer::answer_path;
-
-// A byte as a number to print.
-fn wide(byte: u8) -> u64 {
-    byte as u64
-}
-
-// Writes bytes in hexadecimal, two digits each.
-fn show(bytes: &[u8]) {
-    for i in 0..bytes.len() {
-        io::print_hex(1, wide(bytes[i]), 2);
-    }
-}
+use show::part;
+use show::write;
 
 // Writes what a path is and the answer to it.
 fn show_answer(what: &[u8], path: &[u8]) {
@@ -20,7 +10,7 @@ fn show_answer(what: &[u8], path: &[u8]) {
     let size = answer.count;
     io::write_all(1, what);
     io::write_all(1, b": ");
-    show(&bytes[..size]);
+    write::hex(b"", part::bytes(&bytes, size));
     io::write_all(1, b"\n");
 }
 
@@ -32,7 +22,7 @@ fn show_cut(path: &[u8]) {
 // Writes the answer to a path cut short at each of its lengths.
 fn show_cuts(path: &[u8]) {
     for length in 0..path.len() {
-        show_cut(&path[..length]);
+        show_cut(part::bytes(path, length));
     }
 }
 

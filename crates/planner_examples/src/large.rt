@@ -1,9 +1,10 @@
 // Tables for k = 10: one whose only best order is that of a mixed set of forks, and one of ties.
 
-use crate::show::answer;
-use crate::show::title;
-use crate::show::work;
+use crate::call::answer;
+use crate::call::title;
+use crate::call::work;
 use crate::table::fill;
+use show::part;
 ghost use Prim.Native.Nat.{_<_};
 
 // 1 where fork v is exchanged, in the mixed set.
@@ -41,17 +42,10 @@ fn move_to(p: usize) -> usize {
     stop_in(p - 1) * 1024 + stop_in(p)
 }
 
-// Writes one move's time.
-fn set_time(table: &mut [u32], at: usize, time: u32) {
-    if at < table.len() {
-        table[at] = time;
-    }
-}
-
 // Gives the moves of the planted order a time of their own.
 fn plant(table: &mut [u32], time: u32) {
     for p in 1..1024usize {
-        set_time(table, move_to(p), time);
+        part::put_time(table, move_to(p), time);
     }
 }
 

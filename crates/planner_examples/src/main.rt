@@ -1,61 +1,36 @@
 // Runs the planner on known tables and writes a line for each call: k, the table's rule, the lent lengths, the refusal's number or 0, the total,
 // the whole lent order, and of `totals` and `pivots` how many numbers are 0 and how many are as they were lent. Every lent number is 77.
 
+mod call;
 mod large;
-mod refused;
-mod show;
+mod lent;
 mod table;
 
-use show::example;
+use lent::lent;
 
 // k = 0.
 fn one(rule: u32) {
-    let mut table = [0u32; 1];
-    let mut order = [77u16; 2];
-    let mut totals = [77u64; 3];
-    let mut pivots = [77u16; 4];
-    table::fill(&mut table, 1, rule);
-    example(0, rule, &table, &mut order, &mut totals, &mut pivots);
+    lent(0, rule, 1, 1, 2, 3, 4);
 }
 
 // k = 1.
 fn two(rule: u32) {
-    let mut table = [0u32; 4];
-    let mut order = [77u16; 3];
-    let mut totals = [77u64; 4];
-    let mut pivots = [77u16; 5];
-    table::fill(&mut table, 2, rule);
-    example(1, rule, &table, &mut order, &mut totals, &mut pivots);
+    lent(1, rule, 2, 4, 3, 4, 5);
 }
 
 // k = 2.
 fn four(rule: u32) {
-    let mut table = [0u32; 16];
-    let mut order = [77u16; 5];
-    let mut totals = [77u64; 10];
-    let mut pivots = [77u16; 9];
-    table::fill(&mut table, 4, rule);
-    example(2, rule, &table, &mut order, &mut totals, &mut pivots);
+    lent(2, rule, 4, 16, 5, 10, 9);
 }
 
 // k = 3.
 fn eight(rule: u32) {
-    let mut table = [0u32; 64];
-    let mut order = [77u16; 8];
-    let mut totals = [77u64; 16];
-    let mut pivots = [77u16; 16];
-    table::fill(&mut table, 8, rule);
-    example(3, rule, &table, &mut order, &mut totals, &mut pivots);
+    lent(3, rule, 8, 64, 8, 16, 16);
 }
 
 // k = 4.
 fn sixteen(rule: u32) {
-    let mut table = [0u32; 256];
-    let mut order = [77u16; 18];
-    let mut totals = [77u64; 33];
-    let mut pivots = [77u16; 32];
-    table::fill(&mut table, 16, rule);
-    example(4, rule, &table, &mut order, &mut totals, &mut pivots);
+    lent(4, rule, 16, 256, 18, 33, 32);
 }
 
 // The starred examples of document 01.
@@ -83,10 +58,23 @@ fn ruled() {
     sixteen(3);
 }
 
+// Calls that are refused: every length is enough but one, and k above 10 is found first.
+fn refused() {
+    lent(2, 0, 4, 15, 4, 8, 8);
+    lent(2, 0, 4, 17, 4, 8, 8);
+    lent(2, 0, 4, 16, 3, 8, 8);
+    lent(2, 0, 4, 16, 4, 7, 8);
+    lent(2, 0, 4, 16, 4, 8, 7);
+    lent(2, 0, 4, 16, 4, 8, 8);
+    lent(10, 0, 4, 16, 4, 8, 8);
+    lent(11, 0, 4, 16, 4, 8, 8);
+    lent(65535, 0, 4, 16, 4, 8, 8);
+}
+
 fn main() {
     starred();
     ruled();
-    refused::all();
+    refused();
     large::at_ten(3);
     large::at_ten(5);
 }

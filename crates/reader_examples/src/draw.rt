@@ -1,30 +1,20 @@
 // What is written: each draw, and the whole reading. A stop is written as the 16 bytes that its record of version 5 holds.
 use path::PathRead;
 use reader::Drawn;
+use show::write;
 use stop::Stop;
-
-fn wide(b: u8) -> u64 {
-    b as u64
-}
 
 // A number.
 pub fn number(n: usize) {
     io::print_decimal(1, n as u64);
 }
 
-// The content of a record of 20 bytes.
-fn content(out: &[u8; 20]) {
-    io::write_all(1, b" ");
-    for i in 4..20 {
-        io::print_hex(1, wide(out[i]), 2);
-    }
-}
-
 // A stop.
 fn stop(s: Stop) {
     let mut out = [0u8; 20];
     path::put_stop(&mut out, 0, 5, s);
-    content(&out);
+    io::write_all(1, b" ");
+    write::hex(b"", &out[4..]);
 }
 
 // A refusal.

@@ -1,6 +1,8 @@
 // Draws from good, cut, damaged and over-long paths beside the whole reading of the same bytes, also past the end. What it writes is
 // compared with `stdout`.
-mod show;
+mod draw;
+
+use show::part;
 
 // A path of version 5 of 4 stops, which differ in every field.
 fn good() -> [u8; 92] {
@@ -22,26 +24,17 @@ fn older() -> [u8; 49] {
     bytes
 }
 
-// The first bytes of some, all of them where there are not so many.
-fn front(bytes: &[u8], length: usize) -> &[u8] {
-    if length <= bytes.len() {
-        &bytes[..length]
-    } else {
-        bytes
-    }
-}
-
 // The path cut at a length.
 fn cut(length: usize) {
     let bytes = good();
     io::write_all(1, b"cut at ");
-    show::number(length);
-    show::both(front(&bytes, length), 5);
+    draw::number(length);
+    draw::both(part::bytes(&bytes, length), 5);
 }
 
 // Draws from all of a path that may have been changed.
 fn all(bytes: &[u8; 92]) {
-    show::both(bytes, 5);
+    draw::both(bytes, 5);
 }
 
 // The path with another value in one byte.
@@ -51,9 +44,9 @@ fn damaged(at: usize, value: u8) {
         bytes[at] = value;
     }
     io::write_all(1, b"byte ");
-    show::number(at);
+    draw::number(at);
     io::write_all(1, b" is ");
-    show::number(value as usize);
+    draw::number(value as usize);
     all(&bytes);
 }
 
@@ -61,16 +54,16 @@ fn damaged(at: usize, value: u8) {
 fn versions(length: usize, highest: u16) {
     let bytes = older();
     io::write_all(1, b"version 4, ");
-    show::number(length);
+    draw::number(length);
     io::write_all(1, b" bytes, highest ");
-    show::number(highest as usize);
-    show::both(front(&bytes, length), highest);
+    draw::number(highest as usize);
+    draw::both(part::bytes(&bytes, length), highest);
 }
 
 // One draw from a cursor of the path, with any version.
 fn from(at: usize, version: u16) {
     let bytes = good();
-    show::step(&bytes, at, version);
+    draw::step(&bytes, at, version);
 }
 
 // Cursors that draws reach, and others.
@@ -92,9 +85,9 @@ fn cursors() {
 // The last draws from a path of 1,024 stops: the first `length` bytes of these.
 fn largest(bytes: &[u8; 20493], length: usize) {
     io::write_all(1, b"1024 stops, ");
-    show::number(length);
+    draw::number(length);
     io::write_all(1, b" bytes:");
-    show::numbered(front(bytes, length), 5, 1022, 1027);
+    draw::numbered(part::bytes(bytes, length), 5, 1022, 1027);
     io::write_all(1, b"\n");
 }
 

@@ -61,6 +61,14 @@ pub fn times_mut(all: &mut [u32], count: usize) -> &mut [u32]
     &mut all[..end]
 }
 
+// The first `count` totals that may be written, or all where there are fewer.
+pub fn totals_mut(all: &mut [u64], count: usize) -> &mut [u64]
+    ensures { λ r. ⌜ now r ≡ take (min count (length (now (all .entry)))) (now (all .entry)) ⌝ }
+{
+    let end = least(count, all.len());
+    &mut all[..end]
+}
+
 // Puts a byte where there is a place for it.
 pub fn put(bytes: &mut [u8], at: usize, value: u8)
     ensures { λ _. ⌜ now (bytes .exit) ≡ set (now (bytes .entry)) at value ⌝ }

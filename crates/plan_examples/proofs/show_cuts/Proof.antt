@@ -1,15 +1,11 @@
--- `plan_examples::show_cuts` meets its contract: each part lies within the path.
+-- `plan_examples::show_cuts` is safe and ends. The invariant: the length is within its bound.
 use Prim.Native.Nat.{_≤_, _-_}
-use mathlib.Core.Path.{_≡_, sym}
-use native.Mathlib.Omega.{arith}
-use lib.ListN as lists
-use lib.Seq.{length-take-le}
 use borrow.Author.Needs.{needs}
 use Rattle.plan_examples.proofs.show_cuts.Statement.{statement}
 use Rattle.plan_examples.proofs.show_cuts.Tie as tie
 
 abbrev Inv-loop : tie.InvT-loop
-Inv-loop path length₀ length-end length = (length ≤ length-end) × (length-end ≡ lists.length path)
+Inv-loop path length₀ length-end length = length ≤ length-end
 
 abbrev μ-loop : tie.MeasureT-loop
 μ-loop path length₀ length-end length = length-end - length
@@ -17,17 +13,17 @@ abbrev μ-loop : tie.MeasureT-loop
 loop-holds : tie.Need-loop-holds Inv-loop μ-loop
 loop-holds c = search needs
 
-slice-aggregate-show-cut : tie.Need-slice-aggregate-show-cut Inv-loop μ-loop
-slice-aggregate-show-cut c = sym (length-take-le _ _ (omega arith))
+bytes-requires : tie.Need-bytes-requires Inv-loop μ-loop
+bytes-requires c κs = search needs
 
 show-cut-requires : tie.Need-show-cut-requires Inv-loop μ-loop
 show-cut-requires c κs = search needs
 
 add-length : tie.Need-add-length Inv-loop μ-loop
-add-length c = omega arith
+add-length c = search needs
 
 loop-less : tie.Need-loop-less Inv-loop μ-loop
-loop-less c = omega arith
+loop-less c = search needs
 
 loop-again : tie.Need-loop-again Inv-loop μ-loop
 loop-again c = search needs
@@ -42,7 +38,7 @@ show-cuts-spec =
     Inv-loop
     μ-loop
     loop-holds
-    slice-aggregate-show-cut
+    bytes-requires
     show-cut-requires
     add-length
     loop-less

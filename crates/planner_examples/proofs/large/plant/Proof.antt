@@ -18,8 +18,8 @@ loop-holds c = search needs
 move-to-requires : tie.Need-move-to-requires Inv-loop μ-loop
 move-to-requires c κs = search needs
 
-set-time-requires : tie.Need-set-time-requires Inv-loop μ-loop
-set-time-requires c κs = search needs
+put-time-requires : tie.Need-put-time-requires Inv-loop μ-loop
+put-time-requires c κs = search needs
 
 add-p : tie.Need-add-p Inv-loop μ-loop
 add-p c = search needs
@@ -44,7 +44,7 @@ plant-spec =
     μ-loop
     loop-holds
     move-to-requires
-    set-time-requires
+    put-time-requires
     add-p
     loop-less
     loop-again
