@@ -5,6 +5,7 @@ use order_file::FileRead;
 use order_file::FileWritten;
 use show::count;
 use show::part;
+use show::sum;
 use show::write;
 
 // The file of the 50 example, and then zeros, after the changes. Its records begin at 0, 6, 26 and 31; the total lies at 10, the stops at 18,
@@ -41,10 +42,8 @@ fn one_file(changes: u64) -> [u8; 29] {
     file
 }
 
-// Writes the file of an order, and then the answer.
-fn write_file(name: &[u8], k: u16, order: &[u16], table: &[u32], out: &mut [u8]) {
-    io::write_all(1, name);
-    let written = order_file::write_order_file(k, order, table, out);
+// The answer to the writing of a file into this buffer: how many bytes, and every lent place.
+fn written_answer(written: FileWritten, out: &[u8]) {
     match written {
         FileWritten::Wrote(count) => {
             write::value(b": 0, bytes ", count);
@@ -55,29 +54,52 @@ fn write_file(name: &[u8], k: u16, order: &[u16], table: &[u32], out: &mut [u8])
     }
 }
 
-// An order file that was read: its total, and every lent place.
+// Writes the file of an order, and then the answer.
+pub fn write_file(name: &[u8], k: u16, order: &[u16], table: &[u32], out: &mut [u8]) {
+    io::write_all(1, name);
+    let written = order_file::write_order_file(k, order, table, out);
+    written_answer(written, out)
+}
+
+// A file that was read: its total, the order and the bits, or their sums where the order is long.
 fn write_read(total: u64, order: &[u16], bits: &[u8]) {
     write::value(b": 0, total ", total);
     write::numbers(b", order", order);
-    write::bytes(b", bits", bits);
+    if 255 < order.len() {
+        write::value(b", bits ", sum::bytes(bits));
+    } else {
+        write::bytes(b", bits", bits);
+    }
     io::write_all(1, b"\n");
 }
 
 // Whether every place of the order and the bits still holds 77.
-pub fn untouched(order: &[u16], bits: &[u8]) -> bool {
+fn untouched(order: &[u16], bits: &[u8]) -> bool {
     let stops = count::all_numbers(order, 77);
     let forks = count::all_bytes(bits, 77);
     stops && forks
 }
 
-// Reads the file of an order, and writes the answer.
-fn read_file(name: &[u8], k: u16, table: &[u32], file: &[u8], order: &mut [u16], bits: &mut [u8]) {
-    io::write_all(1, name);
-    let read = order_file::read_order_file(k, table, file, order, bits);
+// The answer to the reading of a file into these buffers.
+fn read_answer(read: FileRead, order: &[u16], bits: &[u8]) {
     match read {
         FileRead::Read { total } => write_read(total, order, bits),
         FileRead::Refused(number) => write::refusal(number, untouched(order, bits)),
     }
+}
+
+// Reads the file of an order, and writes the answer.
+pub fn read_file(
+    name: &[u8],
+    k: u16,
+    table: &[u32],
+    file: &[u8],
+    order: &mut [u16],
+    bits: &mut [u8],
+) {
+    io::write_all(1, name);
+    let read = order_file::read_order_file(k, table, file, order, bits);
+    read_answer(read, order, bits)
 }
 
 // Writes the file of `count` stops, the digits of a number, by a table of `size` places by the rule, to `room` bytes, at most 65 and 44.

@@ -3,13 +3,7 @@
 use crate::file;
 use crate::known;
 use crate::order;
-use order_file::FileRead;
-use order_file::FileWritten;
-use orders::OrderMade;
-use show::count;
 use show::part;
-use show::sum;
-use show::write;
 
 // Byte i of a mixed set of forks.
 fn mixed(i: usize) -> u8 {
@@ -36,16 +30,7 @@ fn order_of(name: &[u8], at: usize, value: u8, room: usize) {
     let mut all = [77u16; 1025];
     put_forks(&mut bits);
     part::put(&mut bits, at, value);
-    let order = part::numbers_mut(&mut all, room);
-    io::write_all(1, name);
-    let made = orders::order_of_bits(10, &bits, order);
-    match made {
-        OrderMade::Made => {
-            write::value(b": 0, order ", sum::numbers(order));
-            io::write_all(1, b"\n");
-        }
-        OrderMade::Refused(number) => write::refusal(number, count::all_numbers(order, 77)),
-    }
+    order::make_order(name, 10, &bits, part::numbers_mut(&mut all, room))
 }
 
 // The fork bits of the order of the mixed set with one stop changed, in `room` bytes, at most 129.
@@ -70,37 +55,14 @@ fn write(name: &[u8], table: &[u32], room: usize) {
     let mut order = [77u16; 1025];
     let mut all = [77u8; 2203];
     put_order(&mut order);
-    let out = part::bytes_mut(&mut all, room);
-    io::write_all(1, name);
-    let written = order_file::write_order_file(10, &order, table, out);
-    match written {
-        FileWritten::Wrote(count) => {
-            write::value(b": 0, bytes ", count);
-            write::value(b", ", sum::bytes(out));
-            io::write_all(1, b"\n");
-        }
-        FileWritten::Refused(number) => write::refusal(number, count::all_bytes(out, 77)),
-    }
-}
-
-// An order file that was read: its total, and of each lent list its sum.
-fn write_read(total: u64, order: &[u16], bits: &[u8]) {
-    write::value(b": 0, total ", total);
-    write::value(b", order ", sum::numbers(order));
-    write::value(b", bits ", sum::bytes(bits));
-    io::write_all(1, b"\n");
+    file::write_file(name, 10, &order, table, part::bytes_mut(&mut all, room))
 }
 
 // Reads an order file for k = 10, and writes the answer.
 fn read_file(name: &[u8], table: &[u32], file: &[u8]) {
     let mut order = [77u16; 1025];
     let mut bits = [77u8; 129];
-    io::write_all(1, name);
-    let read = order_file::read_order_file(10, table, file, &mut order, &mut bits);
-    match read {
-        FileRead::Read { total } => write_read(total, &order, &bits),
-        FileRead::Refused(number) => write::refusal(number, file::untouched(&order, &bits)),
-    }
+    file::read_file(name, 10, table, file, &mut order, &mut bits)
 }
 
 // Reads the first `length` bytes of that file with one byte changed. Its records begin at 0, 6, 2066 and 2198; the total lies at 10, the

@@ -8,10 +8,8 @@ use show::count;
 use show::part;
 use show::write;
 
-// Makes the fork bits of an order, and writes the answer.
-pub fn make_bits(name: &[u8], k: u16, order: &[u16], bits: &mut [u8]) {
-    io::write_all(1, name);
-    let made = orders::fork_bits(k, order, bits);
+// The answer to the making of fork bits in this buffer.
+fn bits_answer(made: BitsMade, bits: &[u8]) {
     match made {
         BitsMade::Made => {
             write::bytes(b": 0, bits", bits);
@@ -21,10 +19,15 @@ pub fn make_bits(name: &[u8], k: u16, order: &[u16], bits: &mut [u8]) {
     }
 }
 
-// Makes the order of fork bits, and writes the answer.
-fn make_order(name: &[u8], k: u16, bits: &[u8], order: &mut [u16]) {
+// Makes the fork bits of an order, and writes the answer.
+pub fn make_bits(name: &[u8], k: u16, order: &[u16], bits: &mut [u8]) {
     io::write_all(1, name);
-    let made = orders::order_of_bits(k, bits, order);
+    let made = orders::fork_bits(k, order, bits);
+    bits_answer(made, bits)
+}
+
+// The answer to the making of an order in this buffer.
+fn order_answer(made: OrderMade, order: &[u16]) {
     match made {
         OrderMade::Made => {
             write::numbers(b": 0, order", order);
@@ -32,6 +35,13 @@ fn make_order(name: &[u8], k: u16, bits: &[u8], order: &mut [u16]) {
         }
         OrderMade::Refused(number) => write::refusal(number, count::all_numbers(order, 77)),
     }
+}
+
+// Makes the order of fork bits, and writes the answer.
+pub fn make_order(name: &[u8], k: u16, bits: &[u8], order: &mut [u16]) {
+    io::write_all(1, name);
+    let made = orders::order_of_bits(k, bits, order);
+    order_answer(made, order)
 }
 
 // Sums an order's total, and writes the answer.

@@ -44,16 +44,25 @@ fn number(number: i32) {
     }
 }
 
-// A label, and the coordinates of a list.
-pub fn list(label: &[u8], coords: &[i32]) {
-    io::write_all(1, label);
+// The coordinates of a list, each after a space.
+fn each(coords: &[i32]) {
     for i in 0..coords.len() {
         number(coords[i]);
     }
 }
 
+// A label, and the coordinates of a list, or of more than 255 their sum.
+pub fn list(label: &[u8], coords: &[i32]) {
+    io::write_all(1, label);
+    if 255 < coords.len() {
+        write::number(total(coords));
+    } else {
+        each(coords);
+    }
+}
+
 // A sum in which each place counts.
-pub fn total(coords: &[i32]) -> u64 {
+fn total(coords: &[i32]) -> u64 {
     let mut total: u64 = 0;
     for i in 0..coords.len() {
         total = sum::more(total, signed(coords[i]));

@@ -1,13 +1,10 @@
-// Paths and a table for k = 10. Of long lists a sum is written in which each place counts.
+// Paths and a table for k = 10.
 
 use crate::coords;
-use path::PathRead;
-use path::PathWritten;
-use show::count;
+use crate::reading;
+use crate::table;
+use crate::writing;
 use show::part;
-use show::sum;
-use show::write;
-use times::TableMade;
 ghost use Prim.Native.Nat.{_<_};
 
 // Puts a number of 2 bytes.
@@ -73,34 +70,6 @@ fn put_path(bytes: &mut [u8], version: u16) {
     put16(bytes, place(version, 1024) + 2, 3);
 }
 
-// An accepted path: its version and k, and of each lent list its sum.
-fn write_read(version: u16, k: u16, coords: &[i32], speeds: &[u16], blends: &[u16]) {
-    write::value(b": 0, version ", show::wide(version));
-    write::value(b", k ", show::wide(k));
-    write::value(b", coordinates ", coords::total(coords));
-    write::value(b", speeds ", sum::numbers(speeds));
-    write::value(b", blends ", sum::numbers(blends));
-    io::write_all(1, b"\n");
-}
-
-// Reads into these buffers, and writes the answer.
-fn read_into(
-    name: &[u8],
-    bytes: &[u8],
-    coords: &mut [i32],
-    speeds: &mut [u16],
-    blends: &mut [u16],
-) {
-    io::write_all(1, name);
-    let read = path::read_path(bytes, 5, coords, speeds, blends);
-    match read {
-        PathRead::Read { version, k } => write_read(version, k, coords, speeds, blends),
-        PathRead::Refused(number) => {
-            write::refusal(number, coords::untouched(coords, speeds, blends))
-        }
-    }
-}
-
 // Reads the first `length` bytes of the path, one of them changed, with one place more than the stops need.
 fn read(name: &[u8], version: u16, length: usize, at: usize, value: u8) {
     let mut bytes = [0u8; 20493];
@@ -109,8 +78,9 @@ fn read(name: &[u8], version: u16, length: usize, at: usize, value: u8) {
     let mut blends = [77u16; 1025];
     put_path(&mut bytes, version);
     part::put(&mut bytes, at, value);
-    read_into(
+    reading::read_into(
         name,
+        5,
         part::bytes(&bytes, length),
         &mut coords,
         &mut speeds,
@@ -128,7 +98,7 @@ fn lent(name: &[u8], places: usize, speeds: usize, blends: usize) {
     let coords = coords::part_mut(&mut coords, places);
     let first = part::numbers_mut(&mut first, speeds);
     let second = part::numbers_mut(&mut second, blends);
-    read_into(name, &bytes, coords, first, second)
+    reading::read_into(name, 5, &bytes, coords, first, second)
 }
 
 // Writes these stops in a version to `room` bytes, at most 20493.
@@ -142,16 +112,7 @@ fn write_lent(
 ) {
     let mut all = [77u8; 20493];
     let out = part::bytes_mut(&mut all, room);
-    io::write_all(1, name);
-    let written = path::write_path(version, 10, coords, speeds, blends, out);
-    match written {
-        PathWritten::Wrote(count) => {
-            write::value(b": 0, bytes ", count);
-            write::value(b", ", sum::bytes(out));
-            io::write_all(1, b"\n");
-        }
-        PathWritten::Refused(number) => write::refusal(number, count::all_bytes(out, 77)),
-    }
+    writing::write_lent(name, version, 10, coords, speeds, blends, out)
 }
 
 // Reads the path of one version and writes its stops in another, with the last stop's blend changed.
@@ -176,19 +137,11 @@ fn make(name: &[u8], speed: u16, table: &mut [u32]) {
     put_path(&mut bytes, 5);
     path::read_path(&bytes, 5, &mut coords, &mut speeds, &mut blends);
     speeds[1023] = speed;
-    io::write_all(1, name);
-    let made = times::make_table(10, &coords, &speeds, &blends, table);
-    match made {
-        TableMade::Made => {
-            write::value(b": 0, times ", sum::times(table));
-            io::write_all(1, b"\n");
-        }
-        TableMade::Refused(number) => write::refusal(number, count::all_times(table, 77)),
-    }
+    table::make(name, 10, &coords, &speeds, &blends, table)
 }
 
 // The same with a table of `size` places, at most 1048577.
-fn table(name: &[u8], speed: u16, size: usize) {
+fn table_of(name: &[u8], speed: u16, size: usize) {
     let mut all = [77u32; 1048577];
     make(name, speed, part::times_mut(&mut all, size))
 }
@@ -218,10 +171,10 @@ fn others() {
     again(b"k 10, write version 4, last blend 1", 4, 4, 1, 20493);
     again(b"k 10, write, last blend 501", 4, 5, 501, 20493);
     again(b"k 10, write, 20491 bytes of room", 5, 5, 0, 20491);
-    table(b"k 10, table", 2000, 1048576);
-    table(b"k 10, table of 1048575 places", 2000, 1048575);
-    table(b"k 10, table of 1048577 places", 2000, 1048577);
-    table(b"k 10, table, last speed 2001", 2001, 1048576);
+    table_of(b"k 10, table", 2000, 1048576);
+    table_of(b"k 10, table of 1048575 places", 2000, 1048575);
+    table_of(b"k 10, table of 1048577 places", 2000, 1048577);
+    table_of(b"k 10, table, last speed 2001", 2001, 1048576);
 }
 
 // The paths and tables for k = 10.

@@ -38,8 +38,18 @@ fn write_read(version: u16, k: u16, coords: &[i32], speeds: &[u16], blends: &[u1
     io::write_all(1, b"\n");
 }
 
+// The answer to a reading into these buffers.
+fn answer(read: PathRead, coords: &[i32], speeds: &[u16], blends: &[u16]) {
+    match read {
+        PathRead::Read { version, k } => write_read(version, k, coords, speeds, blends),
+        PathRead::Refused(number) => {
+            write::refusal(number, coords::untouched(coords, speeds, blends))
+        }
+    }
+}
+
 // Reads into these buffers, and writes the answer.
-fn read_into(
+pub fn read_into(
     name: &[u8],
     highest: u16,
     bytes: &[u8],
@@ -49,12 +59,7 @@ fn read_into(
 ) {
     io::write_all(1, name);
     let read = path::read_path(bytes, highest, coords, speeds, blends);
-    match read {
-        PathRead::Read { version, k } => write_read(version, k, coords, speeds, blends),
-        PathRead::Refused(number) => {
-            write::refusal(number, coords::untouched(coords, speeds, blends))
-        }
-    }
+    answer(read, coords, speeds, blends)
 }
 
 // Reads these bytes, with a place more than two stops need.

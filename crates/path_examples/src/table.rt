@@ -6,10 +6,8 @@ use show::part;
 use show::write;
 use times::TableMade;
 
-// Makes the table of these stops, and writes the answer.
-fn make(name: &[u8], k: u16, coords: &[i32], speeds: &[u16], blends: &[u16], table: &mut [u32]) {
-    io::write_all(1, name);
-    let made = times::make_table(k, coords, speeds, blends, table);
+// The answer to the making of a table in this buffer.
+fn answer(made: TableMade, table: &[u32]) {
     match made {
         TableMade::Made => {
             write::times(b": 0, times", table);
@@ -17,6 +15,20 @@ fn make(name: &[u8], k: u16, coords: &[i32], speeds: &[u16], blends: &[u16], tab
         }
         TableMade::Refused(number) => write::refusal(number, count::all_times(table, 77)),
     }
+}
+
+// Makes the table of these stops, and writes the answer.
+pub fn make(
+    name: &[u8],
+    k: u16,
+    coords: &[i32],
+    speeds: &[u16],
+    blends: &[u16],
+    table: &mut [u32],
+) {
+    io::write_all(1, name);
+    let made = times::make_table(k, coords, speeds, blends, table);
+    answer(made, table)
 }
 
 // The stops of the 50 example but for the first one's x, the last one's blend, and k, with a table of `size` places, at most 17.

@@ -6,15 +6,20 @@ use show::count;
 use show::part;
 use show::write;
 
-// A path that was written: how many bytes, and every lent place.
-fn write_written(count: u64, out: &[u8]) {
-    write::value(b": 0, bytes ", count);
-    write::bytes(b",", out);
-    io::write_all(1, b"\n");
+// The answer to a writing into this buffer: how many bytes, and every lent place.
+fn answer(written: PathWritten, out: &[u8]) {
+    match written {
+        PathWritten::Wrote(count) => {
+            write::value(b": 0, bytes ", count);
+            write::bytes(b",", out);
+            io::write_all(1, b"\n");
+        }
+        PathWritten::Refused(number) => write::refusal(number, count::all_bytes(out, 77)),
+    }
 }
 
 // Writes the path of these stops, and then the answer.
-fn write_lent(
+pub fn write_lent(
     name: &[u8],
     version: u16,
     k: u16,
@@ -25,10 +30,7 @@ fn write_lent(
 ) {
     io::write_all(1, name);
     let written = path::write_path(version, k, coords, speeds, blends, out);
-    match written {
-        PathWritten::Wrote(count) => write_written(count, out),
-        PathWritten::Refused(number) => write::refusal(number, count::all_bytes(out, 77)),
-    }
+    answer(written, out)
 }
 
 // Writes two stops, x, 20000, 0, speed 1 and 10, -1, 256, with a third one lent that is out of range, to 53 places.

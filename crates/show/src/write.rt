@@ -1,4 +1,5 @@
-// Lists and answers written to standard output.
+// Lists and answers written to standard output. Of a list of more than 255 numbers the sum is written.
+use crate::sum;
 use crate::wide;
 use crate::wide8;
 use crate::wide32;
@@ -14,19 +15,37 @@ pub fn number(number: u64) {
     value(b" ", number);
 }
 
+// The numbers of a list, each after a space.
+fn each_number(numbers: &[u16]) {
+    for i in 0..numbers.len() {
+        number(wide(numbers[i]));
+    }
+}
+
 // A label, and the numbers of a list, each after a space.
 pub fn numbers(label: &[u8], numbers: &[u16]) {
     io::write_all(1, label);
-    for i in 0..numbers.len() {
-        number(wide(numbers[i]));
+    if 255 < numbers.len() {
+        number(sum::numbers(numbers));
+    } else {
+        each_number(numbers);
+    }
+}
+
+// The times of a list, each after a space.
+fn each_time(times: &[u32]) {
+    for i in 0..times.len() {
+        number(wide32(times[i]));
     }
 }
 
 // A label, and the times of a list, each after a space.
 pub fn times(label: &[u8], times: &[u32]) {
     io::write_all(1, label);
-    for i in 0..times.len() {
-        number(wide32(times[i]));
+    if 255 < times.len() {
+        number(sum::times(times));
+    } else {
+        each_time(times);
     }
 }
 
@@ -41,7 +60,11 @@ pub fn hex(before: &[u8], bytes: &[u8]) {
 // A label, and the bytes of a list in hexadecimal, each after a space.
 pub fn bytes(label: &[u8], bytes: &[u8]) {
     io::write_all(1, label);
-    hex(b" ", bytes);
+    if 255 < bytes.len() {
+        number(sum::bytes(bytes));
+    } else {
+        hex(b" ", bytes);
+    }
 }
 
 // A refusal: its number, and whether nothing was written.

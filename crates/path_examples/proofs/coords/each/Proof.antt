@@ -1,17 +1,14 @@
--- `path_examples::coords::list` is safe and ends. The invariant: the index is within its bound.
+-- `path_examples::coords::each` is safe and ends. The invariant: the index is within its bound.
 use Prim.Native.Nat.{_≤_, _-_}
 use borrow.Author.Needs.{needs}
-use Rattle.path_examples.proofs.coords.list.Statement.{statement}
-use Rattle.path_examples.proofs.coords.list.Tie as tie
+use Rattle.path_examples.proofs.coords.each.Statement.{statement}
+use Rattle.path_examples.proofs.coords.each.Tie as tie
 
 abbrev Inv-loop : tie.InvT-loop
-Inv-loop label coords i₀ i-end i = i ≤ i-end
+Inv-loop coords i₀ i-end i = i ≤ i-end
 
 abbrev μ-loop : tie.MeasureT-loop
-μ-loop label coords i₀ i-end i = i-end - i
-
-write-all-requires : tie.Need-write-all-requires Inv-loop μ-loop
-write-all-requires c κs = search needs
+μ-loop coords i₀ i-end i = i-end - i
 
 loop-holds : tie.Need-loop-holds Inv-loop μ-loop
 loop-holds c = search needs
@@ -37,13 +34,12 @@ loop-again c = search needs
 returns : tie.Need-returns Inv-loop μ-loop
 returns c = search needs
 
-pub list-spec : {M : Type 1} → statement M
-list-spec =
+pub each-spec : {M : Type 1} → statement M
+each-spec =
     tie.close
     (tie.spec
     Inv-loop
     μ-loop
-    write-all-requires
     loop-holds
     mul-number
     shared-slice-copy-out-number

@@ -1,17 +1,14 @@
--- `show::write::numbers` is safe and ends. The invariant: the index is within its bound.
+-- `show::write::each_number` is safe and ends. The invariant: the index is within its bound.
 use Prim.Native.Nat.{_≤_, _-_}
 use borrow.Author.Needs.{needs}
-use Rattle.show.proofs.write.numbers.Statement.{statement}
-use Rattle.show.proofs.write.numbers.Tie as tie
+use Rattle.show.proofs.write.each_number.Statement.{statement}
+use Rattle.show.proofs.write.each_number.Tie as tie
 
 abbrev Inv-loop : tie.InvT-loop
-Inv-loop label numbers i₀ i-end i = i ≤ i-end
+Inv-loop numbers i₀ i-end i = i ≤ i-end
 
 abbrev μ-loop : tie.MeasureT-loop
-μ-loop label numbers i₀ i-end i = i-end - i
-
-write-all-requires : tie.Need-write-all-requires Inv-loop μ-loop
-write-all-requires c κs = search needs
+μ-loop numbers i₀ i-end i = i-end - i
 
 loop-holds : tie.Need-loop-holds Inv-loop μ-loop
 loop-holds c = search needs
@@ -40,13 +37,12 @@ loop-again c = search needs
 returns : tie.Need-returns Inv-loop μ-loop
 returns c = search needs
 
-pub numbers-spec : {M : Type 1} → statement M
-numbers-spec =
+pub each-number-spec : {M : Type 1} → statement M
+each-number-spec =
     tie.close
     (tie.spec
     Inv-loop
     μ-loop
-    write-all-requires
     loop-holds
     mul-wide
     shared-slice-read-wide
