@@ -14,7 +14,7 @@ use Rattle.base.proofs.Size.{stopCount-pow}
 use Rattle.stop.specs.Lent.{stopsFit}
 use Rattle.path.specs.Path.{HeadRead, readHead, readOn, readPath}
 use Rattle.path.proofs.HeadLaws.{Seen, good-head, bad-head, head-seen}
-use Rattle.orders.proofs.Same.{both}
+use Rattle.base.proofs.Bools.{both}
 use Rattle.order_file.specs.File.{fileSize}
 use Rattle.planner.specs.Plan.{planFits}
 use Rattle.run.specs.PathPlan.{Lent, runFits}

@@ -14,7 +14,8 @@ use Rattle.orders.specs.Same.{alike}
 use Rattle.orders.specs.Allowed.{judgeStops, forksOf}
 use Rattle.orders.specs.Bits.{byteCount, bitString}
 use Rattle.orders.specs.Call.{inSequence, orderIn, orderFits, bitsFit, tableFits, totalNumber}
-use Rattle.orders.proofs.Same.{both, alike-same, equal}
+use Rattle.base.proofs.Bools.{both}
+use Rattle.orders.proofs.Same.{alike-same, equal}
 use Rattle.orders.proofs.Calls.{refused-k, refused-size, sequence-good, short-second, first-decides, written-good, written-bad, value-good, value-bad}
 use Rattle.order_file.specs.declared.FileWritten.the-variants as write-answer
 use Rattle.order_file.specs.declared.FileRead.the-variants as read-answer

@@ -20,7 +20,8 @@ use Rattle.tree.specs.Total.{entry, moves, total}
 use Rattle.orders.specs.Allowed.{judgeStops, forksOf}
 use Rattle.orders.specs.Bits.{byteCount, bitString}
 use Rattle.orders.specs.Call.{inSequence, orderIn, orderFits, bitsFit, tableFits, totalNumber, totalOf}
-use Rattle.orders.proofs.Same.{both, same-alike}
+use Rattle.base.proofs.Bools.{both}
+use Rattle.orders.proofs.Same.{same-alike}
 use Rattle.orders.proofs.Allowed.{below-each, judged-good}
 use Rattle.orders.proofs.Calls.{sequence-good, by-contents, written-good, value-good, total-accepted, total-judged, judge-contents}
 use Rattle.order_file.specs.declared.FileWritten.{FileWritten}

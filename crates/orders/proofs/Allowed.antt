@@ -19,7 +19,8 @@ use Rattle.tree.proofs.Graph.{mayFollow-iff}
 use Rattle.tree.proofs.Theorem7.{theorem7, setOf, setOf-lt, setOf-even, setOf-orderOf, backward}
 use Rattle.orders.specs.Same.{alike}
 use Rattle.orders.specs.Allowed.{stopsBelow, someSet, setGiving, setCount, isAllowed, forksOf, judgeStops}
-use Rattle.orders.proofs.Same.{both, alike-same, same-alike}
+use Rattle.base.proofs.Bools.{both}
+use Rattle.orders.proofs.Same.{alike-same, same-alike}
 
 -- ---- stops below n
 

@@ -20,7 +20,8 @@ use Rattle.tree.specs.Fork.{bit}
 use Rattle.tree.proofs.Bit.{bit-zero, bit-ext}
 use Rattle.tree.proofs.Beside.{below-pow}
 use Rattle.orders.specs.Bits.{byteCount, bitString, setOfBits, stringBit, onlyForks, judgeForks, raised}
-use Rattle.orders.proofs.Same.{both, equal}
+use Rattle.base.proofs.Bools.{both}
+use Rattle.orders.proofs.Same.{equal}
 
 -- ---- bits of numbers
 

@@ -19,7 +19,7 @@ use Rattle.records.proofs.FieldLaws.{length-bytesOf}
 use Rattle.orders.specs.Allowed.{judgeStops, forksOf}
 use Rattle.orders.specs.Bits.{byteCount, bitString, judgeForks}
 use Rattle.orders.specs.Call.{inSequence, written, valueOf, orderIn, forksIn, orderFits, bitsFit, tableFits, judgeOrder, bitsNumber, bitsLeft, orderNumber, orderLeft, totalNumber, totalOf, totalGiven}
-use Rattle.orders.proofs.Same.{both}
+use Rattle.base.proofs.Bools.{both}
 use Rattle.orders.specs.Answer.{numberOfBits, numberOfOrder, numberOfTotal, valueOfTotal, bitsAnswer, orderAnswer, totalAnswer, BitsPromise, OrderPromise, TotalPromise}
 
 -- ---- which test decides

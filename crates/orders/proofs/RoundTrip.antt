@@ -23,7 +23,7 @@ use Rattle.orders.specs.Allowed.{judgeStops, forksOf}
 use Rattle.orders.specs.Bits.{byteCount, bitString, onlyForks, judgeForks}
 use Rattle.orders.specs.Call.{orderIn, forksIn, orderFits, bitsFit, bitsNumber, bitsLeft, orderNumber, orderLeft}
 use Rattle.orders.specs.Answer.{numberOfBits, numberOfOrder, bitsAnswer, orderAnswer, BitsPromise, OrderPromise}
-use Rattle.orders.proofs.Same.{both}
+use Rattle.base.proofs.Bools.{both}
 use Rattle.orders.proofs.Allowed.{Gives, below-all, judge-good, judged-good, forksOf-gives, gives-allowed, forksOf-orderOf}
 use Rattle.orders.proofs.Bits.{only-forks, forks-only, judge-forks, set-of-string, string-of-set}
 use Rattle.orders.proofs.Calls.{sequence-good, bits-left-good, order-left-good, written-good, bits-judged, judge-contents, order-contents}

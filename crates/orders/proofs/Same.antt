@@ -1,18 +1,14 @@
 -- The test that two lists are the same says so.
 use mathlib.Core.Path.{_≡_, refl, sym, ap, ap₂, subst}
-use mathlib.Core.Bool.{Bool, true, false, false≢true, _&&_}
+use mathlib.Core.Bool.{Bool, true, false, false≢true}
 use mathlib.Core.List.{List, [], _∷_}
 use Prim.Native.Nat.{ℕ, _+_, _≤_, _<_}
 use native.Mathlib.Omega.{arith}
 use lib.Dec.{eqb}
 use lib.ListN.{getD}
 use borrow.Author.Tests.{eqb-true, eqb-false, eq-eqb}
+use Rattle.base.proofs.Bools.{both}
 use Rattle.orders.specs.Same.{alike}
-
--- both of two tests hold
-pub both : (a b : Bool) → (a && b) ≡ true → (a ≡ true) × (b ≡ true)
-both true b h = (refl, h)
-both false b h = absurd (false≢true h)
 
 -- two numbers are equal or not
 pub equal : (a b : ℕ) → Dec (a ≡ b)

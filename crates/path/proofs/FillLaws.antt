@@ -15,7 +15,7 @@ use Rattle.stop.specs.Stop.{coordinate}
 use Rattle.stop.specs.Lent.{coordsOf, speedsOf, blendsOf, stopsFit}
 use Rattle.base.specs.Lists.{tabulate}
 use Rattle.stop.proofs.Lent.{length-coordsOf, length-speedsOf, length-blendsOf}
-use Rattle.stop.proofs.Limits.{and-left, and-right}
+use Rattle.base.proofs.Bools.{and-left, and-right}
 use Rattle.base.proofs.Lists.{length-tabulate, tabulate-suc}
 use Rattle.path.specs.Over.{over}
 use Rattle.path.specs.Reading.{filled, placesFit}

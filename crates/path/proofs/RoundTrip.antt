@@ -19,7 +19,7 @@ use Rattle.records.proofs.RecordLaws.{take-written, taken-written, taken-whole}
 use Rattle.stop.specs.declared.Stop.{Stop}
 use Rattle.stop.specs.Stop.{inRange}
 use Rattle.stop.specs.Lent.{allInRange}
-use Rattle.stop.proofs.Limits.{and-left, and-right}
+use Rattle.base.proofs.Bools.{and-left, and-right}
 use Rattle.path.specs.Path.{head, readHead, headOf, readPath, readBody, stops, stopOf, stopThen, andStop, endOf, path, withBody, knownVersion, stopSize, pathSize}
 use Rattle.path.specs.Written.{stopContent, stopBytes, stopsBytes, headBytes, pathBytes, losesField, losesAny}
 use Rattle.path.proofs.BodyLaws.{body-zero, body-suc}

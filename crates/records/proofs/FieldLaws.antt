@@ -10,6 +10,7 @@ use lib.Dec.{ltb}
 use lib.IntN.{ℤ, pos, negsuc, natAbs}
 use lib.ListN.{length, take, drop, getD}
 use borrow.Author.Tests.{lt-ltb, le-ltb, ltb-true}
+use Rattle.base.proofs.Bools.{both}
 use Rattle.records.specs.Field.{number, bytesOf, areBytes, signed, unsigned}
 
 -- ---- the number of bytes
@@ -91,10 +92,6 @@ areBytes-nil = refl
 pub areBytes-cons : (b : ℕ) (s : List ℕ) → areBytes (b ∷ s) ≡ (ltb b 256 && areBytes s)
 unfolding areBytes
 areBytes-cons b s = refl
-
-both : (a b : Bool) → (a && b) ≡ true → (a ≡ true) × (b ≡ true)
-both true b h = (refl, h)
-both false b h = let z : true ≡ false = sym h in (sym z, cc)
 
 pub areBytes-head : (b : ℕ) (s : List ℕ) → areBytes (b ∷ s) ≡ true → b < 256
 areBytes-head b s h = ltb-true b 256 (both (ltb b 256) (areBytes s) (sym (areBytes-cons b s) ∙ h) .0)

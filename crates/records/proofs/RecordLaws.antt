@@ -1,6 +1,6 @@
 -- Laws of records: which test decides; a written record is taken whole, and a taken record is the written one.
 use mathlib.Core.Path.{_≡_, refl, sym, ap, _∙_}
-use mathlib.Core.Bool.{Bool, true, false, cond, true≢false, _&&_}
+use mathlib.Core.Bool.{Bool, true, false, cond}
 use mathlib.Core.List.{List, _++_, append-assoc}
 use Prim.Native.Nat.{ℕ, _+_, _-_, _≤_, _<_}
 use native.Mathlib.Omega.{arith}
@@ -8,14 +8,10 @@ use lib.Dec.{leb, ltb, eqb}
 use lib.ListN.{length, take, drop, length-append, length-drop, take-append-drop}
 use lib.Seq.{length-take-le, take-at, drop-at, drop-drop}
 use borrow.Author.Tests.{lt-ltb, le-ltb, le-leb, lt-leb, eq-eqb, ne-eqb, ltb-false, leb-true, eqb-true}
+use Rattle.base.proofs.Bools.{and-right}
 use Rattle.records.specs.Field.{number, bytesOf, areBytes}
 use Rattle.records.specs.Record.{takeRecord, takenNumber, Taken, taken, refused, kindSaid, lengthSaid, isDue, isKind, recordBytes}
 use Rattle.records.proofs.FieldLaws.{length-bytesOf, number-bytesOf, bytesOf-number, areBytes-take, areBytes-drop}
-
--- the second of two tests that both hold
-both-right : (a b : Bool) → (a && b) ≡ true → b ≡ true
-both-right true b h = h
-both-right false b h = absurd (true≢false (sym h))
 
 -- ---- which test decides
 
@@ -137,7 +133,7 @@ module _ (kind : ℕ) (content rest : List ℕ) where
   pub take-written : (long : ℕ) → isKind kind ≡ true → long ≡ 2 + length content → long < 65536 → takeRecord kind long (recordBytes kind content ++ rest) ≡ taken content rest
   unfolding isDue isKind written
   take-written long k e l =
-      let small : kind ≤ 7 = leb-true kind 7 (both-right (leb 1 kind) (leb kind 7) k) in
+      let small : kind ≤ 7 = leb-true kind 7 (and-right (leb 1 kind) (leb kind 7) k) in
       let size : length written ≡ 4 + length content + length rest = rw (length-append, length-recordBytes) in
       let said : kindSaid written ≡ kind = kind-said (omega arith) in
       let says : lengthSaid written ≡ long = length-said (omega arith) ∙ sym e in
@@ -151,7 +147,7 @@ module _ (kind : ℕ) (content rest : List ℕ) where
 
 pub due-kind : (kind found : ℕ) → isDue kind found ≡ true → found ≡ kind
 unfolding isDue
-due-kind kind found h = sym (eqb-true kind found (both-right (isKind found) (eqb kind found) h))
+due-kind kind found h = sym (eqb-true kind found (and-right (isKind found) (eqb kind found) h))
 
 pub taken-written : (kind long : ℕ) (s content rest : List ℕ) → areBytes s ≡ true → 2 ≤ long → takeRecord kind long s ≡ taken content rest → (s ≡ recordBytes kind content ++ rest) × (2 + length content ≡ long)
 unfolding recordBytes kindSaid lengthSaid

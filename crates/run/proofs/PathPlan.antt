@@ -12,7 +12,7 @@ use borrow.Author.Tests.{le-leb, leb-true, eq-eqb, eqb-true}
 use Rattle.base.specs.Size.{maxK, stopCount}
 use Rattle.base.proofs.Size.{stopCount-pow}
 use Rattle.stop.specs.declared.Stop.{Stop}
-use Rattle.stop.proofs.Limits.{and-left, and-right}
+use Rattle.base.proofs.Bools.{and-left, and-right}
 use Rattle.stop.proofs.Lent.{length-coordsOf, length-speedsOf, length-blendsOf}
 use Rattle.stop.specs.Lent.{lentStops, stopsFit, coordsOf, speedsOf, blendsOf, judgeLent, judgeAll}
 use Rattle.path.specs.declared.PathRead.{PathRead}

@@ -12,13 +12,14 @@ use lib.ListN.{length, getD, take, drop, length-map, List·getD-eq-default}
 use lib.Seq.{getD-drop}
 use lib.IntN.{ℤ, pos}
 use borrow.Author.Tests.{leb-true}
+use Rattle.base.proofs.Bools.{and-left, and-right}
 use Rattle.stop.specs.declared.Stop.{Stop}
 use Rattle.stop.specs.Stop.{inRange, coordinate, zeroStop}
 use Rattle.base.specs.Lists.{tabulate}
 use Rattle.stop.specs.Lent.{pointAt, stopAt, lentStops, coordsOf, speedsOf, blendsOf, allInRange, stopsFit, judgeAll, judgeLent}
 use Rattle.base.proofs.Lists.{length-tabulate, getD-tabulate, tabulate-cong, tabulate-getD, map-tabulate}
 use Rattle.stop.proofs.Verdict.{test-passed, rest-passed}
-use Rattle.stop.proofs.Limits.{Good, good, and-left, and-right}
+use Rattle.stop.proofs.Limits.{Good, good}
 
 -- ---- how many, and which
 

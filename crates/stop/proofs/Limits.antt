@@ -8,6 +8,7 @@ use lib.ListN.{length, List·getD-eq-default}
 use lib.IntN.{ℤ, pos, negsuc, negℤ, natAbs}
 use lib.Signed.{ltZ, leZ}
 use borrow.Author.Tests.{ltb-true, ltb-false, le-leb, lt-leb, eq-eqb, leb-true, eqb-true}
+use Rattle.base.proofs.Bools.{and-left, and-right}
 use Rattle.stop.specs.declared.Stop.{Stop}
 use Rattle.stop.specs.declared.MadeStop.{MadeStop}
 use Rattle.stop.proofs.Verdict.{test-passed, test-failed}
@@ -55,14 +56,6 @@ made-bad s r e f =
     rw (e, b)
 
 -- ---- what is known of a stop in range
-
-pub and-left : (a b : Bool) → (a && b) ≡ true → a ≡ true
-and-left true b e = refl
-and-left false b e = e
-
-pub and-right : (a b : Bool) → (a && b) ≡ true → b ≡ true
-and-right true b e = e
-and-right false b e = absurd (false≢true e)
 
 -- a stop in range: three coordinates, and each field between its limits
 pub record Good (s : Stop) : Type 0 where

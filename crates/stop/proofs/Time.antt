@@ -6,12 +6,13 @@ use native.Mathlib.Nat.{div-lt-iff-lt-mul, le-of-suc-le-suc, mul-le-mul-left, mu
 use native.Mathlib.Omega.{arith}
 use lib.Dec.{eqb}
 use borrow.Author.Tests.{eq-eqb, ne-eqb}
+use Rattle.base.proofs.Bools.{and-left, and-right}
 use Rattle.stop.specs.declared.Stop.{Stop}
 use Rattle.stop.specs.declared.MoveTime.the-variants.{Takes, Refused}
 use Rattle.stop.specs.Stop.{inRange, judgeStop, coordinate, slowest}
 use Rattle.stop.specs.Time.{gap, distance, largestDistance, longestTime, roundUp, travel, time, timeBetween, timeOrZero, bothInRange, judgeMove, moveTime, moveNumber, moveValue, Timed}
 use Rattle.stop.proofs.Verdict.{test-passed, test-failed}
-use Rattle.stop.proofs.Limits.{Good, good, coordinate-bound, judged-good, judged-bad, and-left, and-right}
+use Rattle.stop.proofs.Limits.{Good, good, coordinate-bound, judged-good, judged-bad}
 use Rattle.stop.proofs.Signed.{natAbs-sub}
 
 -- ---- bounds

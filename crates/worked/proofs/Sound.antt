@@ -16,7 +16,8 @@ use Rattle.tree.specs.Wanted.{wanted, Shortest}
 use Rattle.tree.proofs.Wanted.{wanted-shortest, shortest-wanted}
 use Rattle.orders.specs.Same.{alike}
 use Rattle.orders.specs.Allowed.{isAllowed}
-use Rattle.orders.proofs.Same.{both, alike-same, same-alike}
+use Rattle.base.proofs.Bools.{both}
+use Rattle.orders.proofs.Same.{alike-same, same-alike}
 use Rattle.orders.proofs.Allowed.{isAllowed-iff}
 use Rattle.worked.specs.Example.{Example, planned, toured, barred, timed, forkSet, Says, isWanted, holds, allHold, Wrong, allTurnedDown}
 

@@ -9,7 +9,7 @@ use lib.Signed.{ltZ, mag}
 use mir.Syntax.{w32}
 use mir.Val.{SFits, toZ, ofZ}
 use mir.ValLaws.{toZ-ofZ}
-use borrow.Author.Tests.{ltb-true, ltb-false}
+use borrow.Author.Tests.{ltb-true}
 use borrow.Author.Needs.{needs}
 use Rattle.stop.proofs.Signed.{small-fits, read-back, kept}
 use Rattle.path_examples.proofs.coords.below.Statement.{statement}

@@ -1,5 +1,4 @@
 -- `show::count::one` meets its contract, by its test.
-use mathlib.Core.Path.{refl}
 use borrow.Author.Needs.{needs}
 use borrow.Author.Tests.{eq-eqb, ne-eqb}
 use Rattle.show.specs.Count.{hit}
