@@ -9,28 +9,13 @@ use Rattle.planner_examples.proofs.large.at_ten.Tie as tie
 slice-aggregate-run : tie.Need-slice-aggregate-run
 slice-aggregate-run c = sym (length-replicate {0} {A = ℕ} 1048576 0)
 
-slice-aggregate-run-2 : tie.Need-slice-aggregate-run-2
-slice-aggregate-run-2 c = search needs
-
-slice-aggregate-run-3 : tie.Need-slice-aggregate-run-3
-slice-aggregate-run-3 c = search needs
-
-slice-aggregate-run-4 : tie.Need-slice-aggregate-run-4
-slice-aggregate-run-4 c = search needs
-
-run-requires : tie.Need-run-requires
-run-requires c κs = search needs
-
-returns : tie.Need-returns
-returns c = search needs
-
 pub at-ten-spec : {M : Type 1} → statement M
 at-ten-spec =
     tie.close
     (tie.spec
     slice-aggregate-run
-    slice-aggregate-run-2
-    slice-aggregate-run-3
-    slice-aggregate-run-4
-    run-requires
-    returns)
+    (λ c. search needs)
+    (λ c. search needs)
+    (λ c. search needs)
+    (λ c κs. search needs)
+    (λ c. search needs))

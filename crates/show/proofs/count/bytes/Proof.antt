@@ -14,30 +14,6 @@ Inv-loop bytes value count₀ i₀ i-end count i = (i ≤ i-end) × ((count ≤ 
 abbrev μ-loop : tie.MeasureT-loop
 μ-loop bytes value count₀ i₀ i-end count i = i-end - i
 
-loop-holds : tie.Need-loop-holds Inv-loop μ-loop
-loop-holds c = search needs
-
-wide8-requires : tie.Need-wide8-requires Inv-loop μ-loop
-wide8-requires c κs = search needs
-
-shared-slice-read-wide8 : tie.Need-shared-slice-read-wide8 Inv-loop μ-loop
-shared-slice-read-wide8 c = search needs
-
-wide8-requires-2 : tie.Need-wide8-requires-2 Inv-loop μ-loop
-wide8-requires-2 c κs = search needs
-
-one-requires : tie.Need-one-requires Inv-loop μ-loop
-one-requires c κs = search needs
-
-add-count : tie.Need-add-count Inv-loop μ-loop
-add-count c = search needs
-
-add-i : tie.Need-add-i Inv-loop μ-loop
-add-i c = search needs
-
-loop-less : tie.Need-loop-less Inv-loop μ-loop
-loop-less c = search needs
-
 loop-again : tie.Need-loop-again Inv-loop μ-loop
 loop-again c =
     let test = c .before .before .before .before in (
@@ -57,13 +33,13 @@ bytes-spec =
     (tie.spec
     Inv-loop
     μ-loop
-    loop-holds
-    wide8-requires
-    shared-slice-read-wide8
-    wide8-requires-2
-    one-requires
-    add-count
-    add-i
-    loop-less
+    (λ c. search needs)
+    (λ c κs. search needs)
+    (λ c. search needs)
+    (λ c κs. search needs)
+    (λ c κs. search needs)
+    (λ c. search needs)
+    (λ c. search needs)
+    (λ c. search needs)
     loop-again
     returns)

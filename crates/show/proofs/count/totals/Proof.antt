@@ -14,27 +14,6 @@ Inv-loop totals value count₀ i₀ i-end count i = (i ≤ i-end) × ((count ≤
 abbrev μ-loop : tie.MeasureT-loop
 μ-loop totals value count₀ i₀ i-end count i = i-end - i
 
-loop-holds : tie.Need-loop-holds Inv-loop μ-loop
-loop-holds c = search needs
-
-mul-one : tie.Need-mul-one Inv-loop μ-loop
-mul-one c = search needs
-
-shared-slice-read-one : tie.Need-shared-slice-read-one Inv-loop μ-loop
-shared-slice-read-one c = search needs
-
-one-requires : tie.Need-one-requires Inv-loop μ-loop
-one-requires c κs = search needs
-
-add-count : tie.Need-add-count Inv-loop μ-loop
-add-count c = search needs
-
-add-i : tie.Need-add-i Inv-loop μ-loop
-add-i c = search needs
-
-loop-less : tie.Need-loop-less Inv-loop μ-loop
-loop-less c = search needs
-
 loop-again : tie.Need-loop-again Inv-loop μ-loop
 loop-again c =
     let test = c .before .before in (
@@ -54,12 +33,12 @@ totals-spec =
     (tie.spec
     Inv-loop
     μ-loop
-    loop-holds
-    mul-one
-    shared-slice-read-one
-    one-requires
-    add-count
-    add-i
-    loop-less
+    (λ c. search needs)
+    (λ c. search needs)
+    (λ c. search needs)
+    (λ c κs. search needs)
+    (λ c. search needs)
+    (λ c. search needs)
+    (λ c. search needs)
     loop-again
     returns)

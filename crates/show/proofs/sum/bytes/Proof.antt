@@ -14,24 +14,6 @@ Inv-loop bytes sum₀ i₀ i-end sum i = (i ≤ i-end) × (sumFrom sum (drop i b
 abbrev μ-loop : tie.MeasureT-loop
 μ-loop bytes sum₀ i₀ i-end sum i = i-end - i
 
-loop-holds : tie.Need-loop-holds Inv-loop μ-loop
-loop-holds c = search needs
-
-shared-slice-read-wide8 : tie.Need-shared-slice-read-wide8 Inv-loop μ-loop
-shared-slice-read-wide8 c = search needs
-
-wide8-requires : tie.Need-wide8-requires Inv-loop μ-loop
-wide8-requires c κs = search needs
-
-more-requires : tie.Need-more-requires Inv-loop μ-loop
-more-requires c κs = search needs
-
-add-i : tie.Need-add-i Inv-loop μ-loop
-add-i c = search needs
-
-loop-less : tie.Need-loop-less Inv-loop μ-loop
-loop-less c = search needs
-
 loop-again : tie.Need-loop-again Inv-loop μ-loop
 loop-again c = (search needs, sum-next _ _ _ _ _ _ (c .before .before .before .loop-test .taken) (c .before .wide8 .ensures) (c .more .ensures) (c .before .before .before .before .loop .inv .1))
 
@@ -44,11 +26,11 @@ bytes-spec =
     (tie.spec
     Inv-loop
     μ-loop
-    loop-holds
-    shared-slice-read-wide8
-    wide8-requires
-    more-requires
-    add-i
-    loop-less
+    (λ c. search needs)
+    (λ c. search needs)
+    (λ c κs. search needs)
+    (λ c κs. search needs)
+    (λ c. search needs)
+    (λ c. search needs)
     loop-again
     returns)
