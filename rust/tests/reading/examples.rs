@@ -1,0 +1,171 @@
+//! The document's examples, and what holds at every k.
+
+use super::*;
+
+#[test]
+fn known_examples() {
+    let examples: [(u16, &[u32], &[u16], u64); 6] = [
+        (0, &[9], &[0], 0),
+        (1, &[0, 3, 7, 0], &[0, 1], 3),
+        (1, &[0, 7, 3, 0], &[1, 0], 3),
+        (1, &[0, 5, 5, 0], &[1, 0], 5),
+        (2, &[1; 16], &[3, 2, 1, 0], 3),
+        (2, &TABLE, &[2, 3, 1, 0], 50),
+    ];
+    for (k, table, order, total) in examples {
+        let mut run = Run::new(k);
+        run.table = table.to_vec();
+        assert_eq!(run.plan(k), Ok(total));
+        let n = order.len();
+        assert_eq!((&run.order[..n], &run.order[n..]), (order, &[77; 3][..]));
+        assert!(run.totals[..2 * n].iter().all(|&number| number == 0) && run.totals[2 * n..] == [77; 3]);
+        assert!(run.pivots[..2 * n].iter().all(|&number| number == 0) && run.pivots[2 * n..] == [77; 3]);
+        assert_eq!(order_total(k, order, table), Ok(total));
+    }
+    assert_eq!(order_total(2, &[0, 1, 2, 3], &TABLE), Ok(60), "unturned 60");
+    assert_eq!(order_total(2, &[0, 2, 1, 3], &TABLE), Err(NOT_ALLOWED));
+    assert_eq!(order_total(1, &[0, 0], &[0; 4]), Err(NOT_ALLOWED));
+}
+
+#[test]
+fn travel_times() {
+    let stop = |x: i32, y: i32, z: i32, speed: u16| Stop { at: [x, y, z], speed, blend: 500 };
+    assert_eq!(travel_time(&stop(0, 0, 0, 1), &stop(0, -1, 0, 200)), 1);
+    assert_eq!(travel_time(&stop(-20_000, 0, 0, 7), &stop(20_000, 0, 0, 1)), 4_000_000);
+    assert_eq!(travel_time(&stop(0, 0, 0, 7), &stop(1, -2, 3, 100)), 3);
+    assert_eq!(travel_time(&stop(0, 0, 0, 7), &stop(0, 0, 3, 300)), 1);
+    assert_eq!(travel_time(&stop(0, 0, 0, 7), &stop(0, 0, 3, 299)), 2);
+    assert_eq!(travel_time(&stop(5, 6, 7, 7), &stop(5, 6, 7, 9)), 0);
+    let mut table = [77; 4];
+    assert_eq!(make_table(1, &[0, 0, 0, 10, 0, 0], &[1, 100], &[0, 9], &mut table), Ok(()));
+    assert_eq!(table, [0, 10, 1000, 0]);
+}
+
+#[test]
+fn the_50_example_from_bytes_to_bytes() {
+    for version in [4, 5] {
+        let bytes = fifty(version);
+        let mut run = Run::new(2);
+        let mut whole = run.clone();
+        assert_eq!(run.read(&bytes, 5), Ok((version, 2)));
+        assert_eq!(run.coords, [0, 0, 0, 30, 0, 0, 10, 0, 0, 20, 0, 0, 77, 77, 77]);
+        assert_eq!((&run.speeds[..], &run.blends[..]), (&[100, 100, 100, 100, 77, 77, 77][..], &[0, 0, 0, 0, 77, 77, 77][..]));
+        assert_eq!(run.make(2), Ok(()));
+        assert_eq!(run.table, TABLE);
+        assert_eq!(run.plan(2), Ok(50));
+        assert_eq!(whole.whole(&bytes, 5), Ok((version, 2, 50)));
+        assert_eq!(whole, run);
+        let mut out = [77; 200];
+        assert_eq!(run.write(version, 2, &mut out), Ok(bytes.len() as u64));
+        assert_eq!((&out[..bytes.len()], &out[bytes.len()..]), (&bytes[..], &[77; 200][bytes.len()..]));
+        let mut out = [77; 36];
+        assert_eq!(cell_plan(&bytes, 5, &mut out), 35);
+        assert_eq!((&out[..35], out[35]), (&hex(FILE)[..], 77));
+        assert_eq!(cell_check(&bytes, 5, &hex(FILE)), 0);
+    }
+}
+
+#[test]
+fn the_50_example_rewritten() {
+    let mut out = [77; 100];
+    // 'need only be 4 or 5': also above the highest known
+    assert_eq!(cell_rewrite(&fifty(4), 4, 5, &mut out), 92);
+    assert_eq!((&out[..92], out[92]), (&fifty(5)[..], 77));
+    assert_eq!(cell_rewrite(&fifty(5), 5, 4, &mut out), 84);
+    assert_eq!(out[..84], fifty(4));
+    assert_eq!(cell_rewrite(&fifty(5), 5, 5, &mut out[..92]), 92);
+    let blended = with(&fifty(5), 8 + 20 + 18, &[1]);
+    assert_eq!(cell_rewrite(&blended, 5, 5, &mut out), 92);
+    assert_eq!(out[..92], blended);
+    let mut out = [77; 100];
+    assert_eq!(cell_rewrite(&blended, 5, 4, &mut out), -13);
+    assert_eq!(cell_rewrite(&blended, 5, 4, &mut []), -13, "the output is tested last");
+    assert_eq!(cell_rewrite(&blended, 5, 3, &mut []), -4);
+    assert_eq!(cell_rewrite(&blended, 5, 6, &mut out), -4);
+    assert_eq!(cell_rewrite(&blended, 5, 5, &mut out[..91]), -8);
+    assert_eq!(cell_rewrite(&blended, 4, 3, &mut out), -4);
+    assert_eq!(cell_rewrite(&[blended, vec![0]].concat(), 5, 3, &mut out), -7, "the reading comes first");
+    assert_eq!(out, [77; 100]);
+}
+
+/// k = 0: n = 1, no fork, a fork string of one byte.
+#[test]
+fn one_stop() {
+    let path = hex("06 00 01 00 05 00 00 00  12 00 02 00 FF FF FF FF E0 B1 FF FF 20 4E 00 00 D0 07 F4 01  02 00 03 00");
+    let mut run = Run::new(0);
+    assert_eq!(run.whole(&path, 5), Ok((5, 0, 0)));
+    assert_eq!(run.coords, [-1, -20_000, 20_000, 77, 77, 77]);
+    assert_eq!((run.speeds[0], run.blends[0], &run.table[..], run.order[0]), (2_000, 500, &[0][..], 0));
+    let file = hex("04 00 04 00 00 00  0C 00 05 00 00 00 00 00 00 00 00 00 00 00  03 00 06 00 00  02 00 03 00");
+    let mut out = [77; 29];
+    assert_eq!(cell_plan(&path, 5, &mut out), 29);
+    assert_eq!(out[..], file);
+    assert_eq!(cell_plan(&path, 5, &mut out[..28]), -8);
+    assert_eq!(cell_check(&path, 5, &file), 0);
+    assert_eq!(cell_check(&path, 5, &with(&file, 24, &[1])), -12);
+    assert_eq!(cell_check(&path, 5, &with(&file, 24, &[2])), -12);
+    assert_eq!(cell_check(&path, 5, &with(&file, 18, &[1])), -9);
+    assert_eq!(cell_check(&path, 5, &with(&file, 10, &[1])), -11);
+    let mut bits = [77; 2];
+    assert_eq!(fork_bits(0, &[0, 9], &mut bits), Ok(()));
+    assert_eq!(bits, [0, 77]);
+    let mut order = [77; 2];
+    assert_eq!(order_of_bits(0, &bits, &mut order), Ok(()));
+    assert_eq!(order, [0, 77]);
+    assert_eq!(order_total(0, &[0], &[5]), Ok(0));
+}
+
+/// Orders to fork bits and back: every allowed order up to k = 3, some of each larger k; all forks exchanged is the order reversed.
+#[test]
+fn forks_and_back() {
+    let mut random = seeded("forks");
+    for k in 0..=10u32 {
+        let sets: Vec<Vec<bool>> = if k <= 3 { every_set(k).collect() } else { (0..20).map(|_| any_set(&mut random, k)).collect() };
+        let n = 1usize << k;
+        for set in sets {
+            let order = order_of(k, &set);
+            let mut bits = vec![77; n.div_ceil(8) + 1];
+            assert_eq!(fork_bits(k as u16, &order, &mut bits), Ok(()));
+            assert_eq!(bits.pop(), Some(77));
+            for v in 0..8 * bits.len() {
+                assert_eq!(bits[v / 8] >> (v % 8) & 1 == 1, v < n && set[v]);
+            }
+            let mut back = vec![0; n];
+            assert_eq!(order_of_bits(k as u16, &bits, &mut back), Ok(()));
+            assert_eq!(back, order);
+        }
+    }
+    let mut order = [0; 4];
+    assert_eq!(order_of_bits(2, &[0x0E, 0xFF], &mut order), Ok(()));
+    assert_eq!(order, [3, 2, 1, 0]);
+}
+
+/// 'Accepted: .. k = 10': the whole run and an order file at every k, each read back.
+#[test]
+fn every_k() {
+    let mut random = seeded("every k");
+    for k in 0..=10u16 {
+        let n = 1usize << k;
+        let mut lent = Run::new(k);
+        lent.coords.fill_with(|| random.below(40_001) as i32 - 20_000);
+        lent.speeds.fill_with(|| 1 + random.below(2_000) as u16);
+        lent.blends.fill_with(|| random.below(501) as u16);
+        let mut path = vec![0; 12 + 20 * n];
+        assert_eq!(lent.write(5, k, &mut path), Ok(path.len() as u64));
+        let mut run = Run::new(k);
+        let (_, _, total) = run.whole(&path, 5).expect("a good path");
+        assert_eq!((&run.coords[..3 * n], &run.speeds[..n], &run.blends[..n]), (&lent.coords[..3 * n], &lent.speeds[..n], &lent.blends[..n]));
+        let mut file = vec![0; 30 + 3 * n];
+        let count = write_order_file(k, &run.order, &run.table, &mut file).expect("an allowed order") as usize;
+        assert_eq!(count, 26 + 2 * n + n.div_ceil(8));
+        let (mut order, mut bits) = (vec![0; n], vec![0; n.div_ceil(8)]);
+        assert_eq!(read_order_file(k, &run.table, &file[..count], &mut order, &mut bits), Ok(total));
+        assert_eq!(order, run.order[..n]);
+        let due = if k <= 6 { 0 } else { -8 };
+        assert_eq!(cell_check(&path, 5, &file[..count]), due);
+        let mut out = vec![77; count];
+        assert_eq!(cell_plan(&path, 5, &mut out), if k <= 6 { count as i64 } else { -8 });
+        assert!(k > 6 || out == file[..count]);
+        assert_eq!(draw_number(&path, 5, n), Ok(None));
+    }
+}
