@@ -1,6 +1,6 @@
 #!/usr/bin/env bash
 # Builds the static libraries and runs the comparisons against them. ROUNDS=10 runs ten times as many cases.
-# With the word `valgrind` it runs a smaller number under valgrind instead.
+# With the word `valgrind` it runs a smaller number under valgrind instead, with the word `all` both.
 set -euo pipefail
 cd "$(dirname "$0")/.."
 mkdir -p target
@@ -8,9 +8,11 @@ for name in ffi cell; do
     rt staticlib "$name" >target/rust.log 2>&1 || { cat target/rust.log; exit 1; }
 done
 cd rust
-if [ "${1:-}" = valgrind ]; then
+what=${1:-tests}
+if [ "$what" != valgrind ]; then
+    cargo test --release --offline --quiet --tests -- --nocapture
+fi
+if [ "$what" != tests ]; then
     cargo build --release --offline --quiet --bin sample
     valgrind --quiet --error-exitcode=1 target/release/sample
-else
-    cargo test --release --offline --quiet --tests -- --nocapture
 fi
