@@ -25,14 +25,26 @@ same-length c = search needs
 
 returns : tie.Need-returns
 unfolding bitsResult
-returns c = let p = c .before .before .before .before .fork-bits in record { answer = p .result; kept = p .ensures; result = sym (ap bitsResult (c .enum-told .given .1)) }
+returns c =
+    let p = c .before .before .before .before .fork-bits in
+    record {
+      answer = p .result;
+      kept = p .ensures;
+      result = sym (ap bitsResult (c .enum-told .given .1));
+    }
 
 same-length-2 : tie.Need-same-length-2
 same-length-2 c = search needs
 
 returns-2 : tie.Need-returns-2
 unfolding bitsResult
-returns-2 c = let p = c .before .before .before .before .before .before .fork-bits in record { answer = p .result; kept = p .ensures; result = kept _ (c .refusal .ok) ∙ c .refusal .ensures ∙ sym (ap bitsResult (c .before .before .answer .given .1)) }
+returns-2 c =
+    let p = c .before .before .before .before .before .before .fork-bits in
+    record {
+      answer = p .result;
+      kept = p .ensures;
+      result = kept _ (c .refusal .ok) ∙ c .refusal .ensures ∙ sym (ap bitsResult (c .before .before .answer .given .1));
+    }
 
 pub ffi-fork-bits-spec : {M : Type 1} → statement M
 ffi-fork-bits-spec =

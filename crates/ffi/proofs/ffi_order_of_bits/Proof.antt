@@ -25,14 +25,26 @@ same-length c = search needs
 
 returns : tie.Need-returns
 unfolding orderResult
-returns c = let p = c .before .before .before .before .order-of-bits in record { answer = p .result; kept = p .ensures; result = sym (ap orderResult (c .enum-told .given .1)) }
+returns c =
+    let p = c .before .before .before .before .order-of-bits in
+    record {
+      answer = p .result;
+      kept = p .ensures;
+      result = sym (ap orderResult (c .enum-told .given .1));
+    }
 
 same-length-2 : tie.Need-same-length-2
 same-length-2 c = search needs
 
 returns-2 : tie.Need-returns-2
 unfolding orderResult
-returns-2 c = let p = c .before .before .before .before .before .before .order-of-bits in record { answer = p .result; kept = p .ensures; result = kept _ (c .refusal .ok) ∙ c .refusal .ensures ∙ sym (ap orderResult (c .before .before .answer .given .1)) }
+returns-2 c =
+    let p = c .before .before .before .before .before .before .order-of-bits in
+    record {
+      answer = p .result;
+      kept = p .ensures;
+      result = kept _ (c .refusal .ok) ∙ c .refusal .ensures ∙ sym (ap orderResult (c .before .before .answer .given .1));
+    }
 
 pub ffi-order-of-bits-spec : {M : Type 1} → statement M
 ffi-order-of-bits-spec =

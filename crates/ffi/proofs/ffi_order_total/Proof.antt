@@ -25,11 +25,23 @@ refusal-requires c κs = search needs
 
 returns : tie.Need-returns
 unfolding totalResult
-returns c = let p = c .before .before .before .before .order-total in record { answer = p .result; kept = p .ensures; result = kept _ (c .value .ok) ∙ c .value .ensures ∙ sym (ap totalResult (c .before .before .answer .given .1)) }
+returns c =
+    let p = c .before .before .before .before .order-total in
+    record {
+      answer = p .result;
+      kept = p .ensures;
+      result = kept _ (c .value .ok) ∙ c .value .ensures ∙ sym (ap totalResult (c .before .before .answer .given .1));
+    }
 
 returns-2 : tie.Need-returns-2
 unfolding totalResult
-returns-2 c = let p = c .before .before .before .before .order-total in record { answer = p .result; kept = p .ensures; result = kept _ (c .refusal .ok) ∙ c .refusal .ensures ∙ sym (ap totalResult (c .before .before .answer2 .given .1)) }
+returns-2 c =
+    let p = c .before .before .before .before .order-total in
+    record {
+      answer = p .result;
+      kept = p .ensures;
+      result = kept _ (c .refusal .ok) ∙ c .refusal .ensures ∙ sym (ap totalResult (c .before .before .answer2 .given .1));
+    }
 
 pub ffi-order-total-spec : {M : Type 1} → statement M
 ffi-order-total-spec =

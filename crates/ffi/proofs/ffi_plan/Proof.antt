@@ -34,7 +34,13 @@ same-length-3 c = search needs
 
 returns : tie.Need-returns
 unfolding planResult
-returns c = let p = c .before .before .before .before .before .before .before .before .before .before .plan in record { answer = p .result; kept = p .ensures; result = kept _ (c .value .ok) ∙ c .value .ensures ∙ sym (ap planResult (c .before .before .answer .given .1)) }
+returns c =
+    let p = c .before .before .before .before .before .before .before .before .before .before .plan in
+    record {
+      answer = p .result;
+      kept = p .ensures;
+      result = kept _ (c .value .ok) ∙ c .value .ensures ∙ sym (ap planResult (c .before .before .answer .given .1));
+    }
 
 same-length-4 : tie.Need-same-length-4
 same-length-4 c = search needs
@@ -47,7 +53,13 @@ same-length-6 c = search needs
 
 returns-2 : tie.Need-returns-2
 unfolding planResult
-returns-2 c = let p = c .before .before .before .before .before .before .before .before .before .before .plan in record { answer = p .result; kept = p .ensures; result = kept _ (c .refusal .ok) ∙ c .refusal .ensures ∙ sym (ap planResult (c .before .before .answer2 .given .1)) }
+returns-2 c =
+    let p = c .before .before .before .before .before .before .before .before .before .before .plan in
+    record {
+      answer = p .result;
+      kept = p .ensures;
+      result = kept _ (c .refusal .ok) ∙ c .refusal .ensures ∙ sym (ap planResult (c .before .before .answer2 .given .1));
+    }
 
 pub ffi-plan-spec : {M : Type 1} → statement M
 ffi-plan-spec =

@@ -51,7 +51,13 @@ same-length-7 c = c .before .before .before .before .before .before .before .bef
 
 returns : tie.Need-returns
 unfolding runResult
-returns c = let p = c .before .before .before .before .before .before .before .before .before .before .before .before .before .before .before .before .before .before .plan-path in record { answer = p .result; kept = p .ensures; result = kept _ (c .value .ok) ∙ c .value .ensures ∙ ap given (c .before .pack .ensures) ∙ sym (ap runResult (c .before .before .before .answer .given .1)) }
+returns c =
+    let p = c .before .before .before .before .before .before .before .before .before .before .before .before .before .before .before .before .before .before .plan-path in
+    record {
+      answer = p .result;
+      kept = p .ensures;
+      result = kept _ (c .value .ok) ∙ c .value .ensures ∙ ap given (c .before .pack .ensures) ∙ sym (ap runResult (c .before .before .before .answer .given .1));
+    }
 
 same-length-8 : tie.Need-same-length-8
 same-length-8 c = c .before .before .before .before .before .before .before .before .before .before .before .before .before .before .before .before .before .plan-path .kept .1 .1 .0
@@ -76,7 +82,13 @@ same-length-14 c = c .before .before .before .before .before .before .before .be
 
 returns-2 : tie.Need-returns-2
 unfolding runResult
-returns-2 c = let p = c .before .before .before .before .before .before .before .before .before .before .before .before .before .before .before .before .before .plan-path in record { answer = p .result; kept = p .ensures; result = kept _ (c .refusal .ok) ∙ c .refusal .ensures ∙ sym (ap runResult (c .before .before .answer2 .given .1)) }
+returns-2 c =
+    let p = c .before .before .before .before .before .before .before .before .before .before .before .before .before .before .before .before .before .plan-path in
+    record {
+      answer = p .result;
+      kept = p .ensures;
+      result = kept _ (c .refusal .ok) ∙ c .refusal .ensures ∙ sym (ap runResult (c .before .before .answer2 .given .1));
+    }
 
 pub ffi-plan-path-spec : {M : Type 1} → statement M
 ffi-plan-path-spec =

@@ -31,7 +31,13 @@ same-length-2 c = search needs
 
 returns : tie.Need-returns
 unfolding fileTotal
-returns c = let p = c .before .before .before .before .before .before .before .before .read-order-file in record { answer = p .result; kept = p .ensures; result = kept _ (c .value .ok) ∙ c .value .ensures ∙ sym (ap fileTotal (c .before .before .answer .given .1)) }
+returns c =
+    let p = c .before .before .before .before .before .before .before .before .read-order-file in
+    record {
+      answer = p .result;
+      kept = p .ensures;
+      result = kept _ (c .value .ok) ∙ c .value .ensures ∙ sym (ap fileTotal (c .before .before .answer .given .1));
+    }
 
 same-length-3 : tie.Need-same-length-3
 same-length-3 c = search needs
@@ -41,7 +47,13 @@ same-length-4 c = search needs
 
 returns-2 : tie.Need-returns-2
 unfolding fileTotal
-returns-2 c = let p = c .before .before .before .before .before .before .before .before .read-order-file in record { answer = p .result; kept = p .ensures; result = kept _ (c .refusal .ok) ∙ c .refusal .ensures ∙ sym (ap fileTotal (c .before .before .answer2 .given .1)) }
+returns-2 c =
+    let p = c .before .before .before .before .before .before .before .before .read-order-file in
+    record {
+      answer = p .result;
+      kept = p .ensures;
+      result = kept _ (c .refusal .ok) ∙ c .refusal .ensures ∙ sym (ap fileTotal (c .before .before .answer2 .given .1));
+    }
 
 pub ffi-read-order-file-spec : {M : Type 1} → statement M
 ffi-read-order-file-spec =

@@ -28,14 +28,26 @@ same-length c = search needs
 
 returns : tie.Need-returns
 unfolding fileResult
-returns c = let p = c .before .before .before .before .before .before .write-order-file in record { answer = p .result; kept = p .ensures; result = kept _ (c .value .ok) ∙ c .value .ensures ∙ sym (ap fileResult (c .before .before .answer .given .1)) }
+returns c =
+    let p = c .before .before .before .before .before .before .write-order-file in
+    record {
+      answer = p .result;
+      kept = p .ensures;
+      result = kept _ (c .value .ok) ∙ c .value .ensures ∙ sym (ap fileResult (c .before .before .answer .given .1));
+    }
 
 same-length-2 : tie.Need-same-length-2
 same-length-2 c = search needs
 
 returns-2 : tie.Need-returns-2
 unfolding fileResult
-returns-2 c = let p = c .before .before .before .before .before .before .write-order-file in record { answer = p .result; kept = p .ensures; result = kept _ (c .refusal .ok) ∙ c .refusal .ensures ∙ sym (ap fileResult (c .before .before .answer2 .given .1)) }
+returns-2 c =
+    let p = c .before .before .before .before .before .before .write-order-file in
+    record {
+      answer = p .result;
+      kept = p .ensures;
+      result = kept _ (c .refusal .ok) ∙ c .refusal .ensures ∙ sym (ap fileResult (c .before .before .answer2 .given .1));
+    }
 
 pub ffi-write-order-file-spec : {M : Type 1} → statement M
 ffi-write-order-file-spec =
