@@ -1,2 +1,3 @@
 -- Laws of the exported calls.
 pub mod AtMost
+pub mod Small

@@ -3,8 +3,6 @@ use mathlib.Core.Path.{sym, ap, _∙_}
 use borrow.Author.Needs.{needs}
 use Rattle.cell.proofs.Signed.{kept}
 use Rattle.ffi.specs.Results.{bitsResult}
-use Rattle.cell.proofs.Signed.{kept}
-use Rattle.ffi.specs.Results.{bitsResult}
 use Rattle.ffi.proofs.ffi_fork_bits.Statement.{statement}
 use Rattle.ffi.proofs.ffi_fork_bits.Tie as tie
 

@@ -3,8 +3,6 @@ use mathlib.Core.Path.{sym, ap, _∙_}
 use borrow.Author.Needs.{needs}
 use Rattle.cell.proofs.Signed.{kept}
 use Rattle.ffi.specs.Results.{orderResult}
-use Rattle.cell.proofs.Signed.{kept}
-use Rattle.ffi.specs.Results.{orderResult}
 use Rattle.ffi.proofs.ffi_order_of_bits.Statement.{statement}
 use Rattle.ffi.proofs.ffi_order_of_bits.Tie as tie
 

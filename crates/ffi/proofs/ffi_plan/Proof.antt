@@ -3,8 +3,6 @@ use mathlib.Core.Path.{sym, ap, _∙_}
 use borrow.Author.Needs.{needs}
 use Rattle.cell.proofs.Signed.{kept}
 use Rattle.ffi.specs.Results.{planResult}
-use Rattle.cell.proofs.Signed.{kept}
-use Rattle.ffi.specs.Results.{planResult}
 use Rattle.ffi.proofs.ffi_plan.Statement.{statement}
 use Rattle.ffi.proofs.ffi_plan.Tie as tie
 

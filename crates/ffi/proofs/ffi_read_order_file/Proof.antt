@@ -3,8 +3,6 @@ use mathlib.Core.Path.{sym, ap, _∙_}
 use borrow.Author.Needs.{needs}
 use Rattle.cell.proofs.Signed.{kept}
 use Rattle.ffi.specs.Results.{fileTotal}
-use Rattle.cell.proofs.Signed.{kept}
-use Rattle.ffi.specs.Results.{fileTotal}
 use Rattle.ffi.proofs.ffi_read_order_file.Statement.{statement}
 use Rattle.ffi.proofs.ffi_read_order_file.Tie as tie
 

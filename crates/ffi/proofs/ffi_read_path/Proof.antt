@@ -4,9 +4,6 @@ use borrow.Author.Needs.{needs}
 use Rattle.cell.proofs.Signed.{kept}
 use Rattle.ffi.specs.Signed.{given}
 use Rattle.ffi.specs.Results.{readResult}
-use Rattle.cell.proofs.Signed.{kept}
-use Rattle.ffi.specs.Signed.{given}
-use Rattle.ffi.specs.Results.{readResult}
 use Rattle.ffi.proofs.ffi_read_path.Statement.{statement}
 use Rattle.ffi.proofs.ffi_read_path.Tie as tie
 

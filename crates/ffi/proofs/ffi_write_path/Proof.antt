@@ -3,8 +3,6 @@ use mathlib.Core.Path.{sym, ap, _∙_}
 use borrow.Author.Needs.{needs}
 use Rattle.cell.proofs.Signed.{kept}
 use Rattle.ffi.specs.Results.{writeResult}
-use Rattle.cell.proofs.Signed.{kept}
-use Rattle.ffi.specs.Results.{writeResult}
 use Rattle.ffi.proofs.ffi_write_path.Statement.{statement}
 use Rattle.ffi.proofs.ffi_write_path.Tie as tie
 
