@@ -1,12 +1,12 @@
 -- No value that a call gives is cut: totals of 32-bit entries have 42 bits, and a signed result holds them beside a version and k.
 use mathlib.Core.Path.{_≡_, ap}
 use mathlib.Core.List.{List}
-use Prim.Native.Nat.{ℕ, zero, suc, pred, _+_, _*_, _≤_, _<_}
-use native.Mathlib.Nat.{mul-le-mul-right, suc-mul}
+use Prim.Native.Nat.{ℕ, _+_, _*_, _≤_, _<_}
 use native.Mathlib.Omega.{arith}
 use lib.IntN.{pos}
-use lib.ListN.{length, getD}
-use Rattle.tree.specs.Total.{moves, total}
+use lib.ListN.{length}
+use Rattle.tree.specs.Total.{total}
+use Rattle.tree.proofs.Small.{total-small}
 use Rattle.ffi.specs.Signed.{given, packed}
 use Rattle.ffi.proofs.AtMost.{kept-below}
 
@@ -15,18 +15,7 @@ pub value-given : (v : ℕ) → v < 9223372036854775807 → given v ≡ pos v
 unfolding given
 value-given v h = ap pos (kept-below 9223372036854775807 v h)
 
--- m moves of 32 bits each
-moves-small : (t : ℕ → ℕ → ℕ) (o : List ℕ) (m : ℕ) → ((a b : ℕ) → t a b ≤ 4294967295) → moves t o m ≤ m * 4294967295
-moves-small t o zero h = omega arith
-moves-small t o (suc m) h = omega (arith, moves-small t o m h, h (getD o m 0) (getD o (suc m) 0), suc-mul m 4294967295)
-
--- the total of an order of up to 1,024 stops, by any times of 32 bits
-pub total-small : (t : ℕ → ℕ → ℕ) (o : List ℕ) → ((a b : ℕ) → t a b ≤ 4294967295) → length o ≤ 1024 → total t o < 4398046511103
-total-small t o h b =
-    let p : pred (length o) ≤ 1023 = omega arith in
-    omega (arith, moves-small t o (pred (length o)) h, mul-le-mul-right 4294967295 p)
-
--- so it is given whole, by itself and beside a version and k
+-- a total of up to 1,024 stops by any times of 32 bits is given whole, by itself and beside a version and k
 pub total-given : (t : ℕ → ℕ → ℕ) (o : List ℕ) → ((a b : ℕ) → t a b ≤ 4294967295) → length o ≤ 1024 → given (total t o) ≡ pos (total t o)
 total-given t o h b = value-given (total t o) (omega (arith, total-small t o h b))
 

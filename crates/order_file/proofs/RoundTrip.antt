@@ -2,7 +2,7 @@
 use mathlib.Core.Path.{_≡_, refl, sym, ap, ap₂, _∙_}
 use mathlib.Core.Bool.{true, _&&_}
 use mathlib.Core.List.{List, [], _++_, append-nil, append-assoc}
-use Prim.Native.Nat.{ℕ, zero, suc, pred, _+_, _*_, _-_, _^_, _≤_, _<_}
+use Prim.Native.Nat.{ℕ, zero, _+_, _*_, _-_, _^_, _≤_, _<_}
 use native.Mathlib.Omega.{arith}
 use lib.Dec.{leb}
 use lib.ListN.{length, getD, take, drop, length-append, length-take, length-drop, drop-of-length-le}
@@ -15,12 +15,13 @@ use Rattle.records.specs.Record.{taken, takeRecord, recordBytes, isKind, orderK
 use Rattle.records.proofs.FieldLaws.{number-bytesOf, bytesOf-number, length-bytesOf, areBytes-take, areBytes-drop}
 use Rattle.records.proofs.RecordLaws.{take-written, taken-written, number-good}
 use Rattle.records.proofs.LengthLaws.{order-length, stops-length, forks-length, end-length}
-use Rattle.tree.specs.Neighbour.{inPlace}
-use Rattle.tree.specs.Total.{entry, moves, total}
+use Rattle.tree.specs.Total.{entry, total}
+use Rattle.tree.proofs.Small.{total-small}
 use Rattle.orders.specs.Allowed.{judgeStops, forksOf}
 use Rattle.orders.specs.Bits.{byteCount, bitString}
 use Rattle.orders.specs.Call.{inSequence, orderIn, orderFits, bitsFit, tableFits, totalNumber, totalOf}
 use Rattle.base.proofs.Bools.{both}
+use Rattle.base.proofs.Size.{pow-le-1024}
 use Rattle.orders.proofs.Same.{same-alike}
 use Rattle.orders.proofs.Allowed.{below-each, judged-good}
 use Rattle.orders.proofs.Calls.{sequence-good, by-contents, written-good, value-good, total-accepted, total-judged, judge-contents}
@@ -77,16 +78,11 @@ written-said k sum order F h small long stops =
       last,
     )
 
--- the moves of an order by a table of 32-bit entries
-moves-small : (n : ℕ) (table order : List ℕ) → ((i : ℕ) → getD table i 0 < 2 ^ 32) → (m : ℕ) → moves (entry n table) order m ≤ m * 4294967296
-moves-small n table order h zero = omega arith
-moves-small n table order h (suc m) =
-    omega (arith, moves-small n table order h m, h (inPlace order m * n + inPlace order (suc m)))
-
 -- a total fits 64 bits
-pub total-small : (k : ℕ) (table order : List ℕ) → k ≤ maxK → length order ≡ 2 ^ k → ((i : ℕ) → getD table i 0 < 2 ^ 32) → total (entry (2 ^ k) table) order < 2 ^ 64
-total-small k table order h e small =
-    omega (arith, moves-small (2 ^ k) table order small (pred (length order)), true-sizes k h .small, true-sizes k h .some)
+pub total-fits : (k : ℕ) (table order : List ℕ) → k ≤ maxK → length order ≡ 2 ^ k → ((i : ℕ) → getD table i 0 < 2 ^ 32) → total (entry (2 ^ k) table) order < 2 ^ 64
+total-fits k table order h e small =
+    let b : length order ≤ 1024 = rw e (pow-le-1024 k h) in
+    omega (arith, total-small (entry (2 ^ k) table) order (λ x y. let w = small (x * 2 ^ k + y) in omega arith) b)
 
 -- a stop of an order that was judged fits its field
 stop-small : (k : ℕ) (order : List ℕ) → k ≤ maxK → length order ≡ 2 ^ k → judgeStops k order ≡ accepted → (p : ℕ) → p < 2 ^ k → getD order p 0 < 65536
@@ -97,7 +93,7 @@ module _ (k : ℕ) (table order : List ℕ) (small : k ≤ maxK) (long : length 
   -- the file for an allowed order says that order, its total and its fork string
   pub file-says : readRecords k (fileFor k table order) ≡ said (total (entry (2 ^ k) table) order) order (bitString k (forksOf k order))
   unfolding fileFor
-  file-says = written-said k (total (entry (2 ^ k) table) order) order (forksOf k order) small (total-small k table order small long entries) long (stop-small k order small long good)
+  file-says = written-said k (total (entry (2 ^ k) table) order) order (forksOf k order) small (total-fits k table order small long entries) long (stop-small k order small long good)
 
   -- and is not refused
   pub file-accepted : judgeFile k table (fileFor k table order) ≡ accepted

@@ -11,3 +11,4 @@ pub mod Wanted
 pub mod Graph
 pub mod Diagonal
 pub mod Block
+pub mod Small

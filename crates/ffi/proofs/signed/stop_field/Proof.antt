@@ -1,5 +1,4 @@
 -- `ffi::signed::stop_field` meets its contract, field by field.
-use mathlib.Core.Path.{_∙_}
 use native.Mathlib.Omega.{arith}
 use lib.IntN.{pos}
 use lib.ListN.{getD}
