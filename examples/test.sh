@@ -1,6 +1,6 @@
 #!/usr/bin/env bash
 # Runs the program on every sample path and compares what it writes with the answer due. The samples are those that make.py makes.
-# The program is built first; another one may be named as the argument.
+# The program is built first; another one may be named as the argument. show.py is tried on every sample and on every cut of them.
 set -euo pipefail
 if [ $# -gt 0 ]; then program=$(realpath "$1"); else program=; fi
 cd "$(dirname "$0")/.."
@@ -43,4 +43,24 @@ same "a byte at a time" $fifty.answer
 same "megabytes" examples/paths/refused-7-long.answer
 
 echo "$count answers of the program, $failed differ"
+
+# show.py as it is called: it answers everything with status 0 or 1, and never with a stack trace
+shown() {
+    status=0
+    examples/show.py <"$2" >"$work/found" 2>&1 || status=$?
+    if [ "$status" -gt 1 ] || grep -q Traceback "$work/found"; then
+        echo "$1: show.py fails"
+        failed=$((failed + 1))
+    fi
+}
+
+for given in examples/paths/*; do shown "$given" "$given"; done
+for given in examples/paths/good-one-4.*; do
+    for ((length = 0; length < $(stat -c %s "$given"); length++)); do
+        head -c "$length" "$given" >"$work/cut"
+        shown "$given, $length bytes" "$work/cut"
+    done
+done
+# and from within, every cut of every sample, and damage
+python3 examples/show_test.py
 [ "$failed" = 0 ]
