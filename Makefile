@@ -13,7 +13,7 @@ test:
 	.ci/run
 
 rust:
-	rt staticlib ffi
+	rt staticlib exports
 	rt staticlib cell
 	cd rust && cargo build --release --offline
 

@@ -4,7 +4,7 @@
 set -euo pipefail
 cd "$(dirname "$0")/.."
 mkdir -p target
-for name in ffi cell; do
+for name in exports cell; do
     rt staticlib "$name" >target/rust.log 2>&1 || { cat target/rust.log; exit 1; }
 done
 cd rust

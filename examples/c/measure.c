@@ -1,6 +1,6 @@
 /*
- * The time and the stack of the controller's calls at k = 6: 64 stops from a fixed seed in version 5. The best time of many calls; the
- * stack is that of a thread whose stack was filled with a pattern, less that of a thread which calls nothing.
+ * The stack of the controller's calls at k = 6, as the last part of docs/BENCHMARK.md: 64 stops from a fixed seed in version 5. A call's stack
+ * is that of a thread whose stack was filled with a pattern, less that of a thread which calls nothing.
  */
 #define _POSIX_C_SOURCE 200809L
 #include "cell.h"
@@ -9,10 +9,8 @@
 #include <stdio.h>
 #include <stdlib.h>
 #include <string.h>
-#include <time.h>
 
 #define STACK (256 * 1024)
-#define CALLS 2000
 
 static uint8_t path[CELL_MAX_PATH_SIZE];
 static uint8_t file[CELL_MAX_ORDER_FILE_SIZE];
@@ -79,22 +77,6 @@ static size_t stack_of(struct job *job)
     return STACK - untouched;
 }
 
-/* The microseconds of the quickest of many calls. */
-static double time_of(struct job *job)
-{
-    double best = 1e9;
-    for (int i = 0; i < CALLS; i++) {
-        struct timespec from, to;
-        clock_gettime(CLOCK_THREAD_CPUTIME_ID, &from);
-        job->result = job->call();
-        clock_gettime(CLOCK_THREAD_CPUTIME_ID, &to);
-        double spent = (double)(to.tv_sec - from.tv_sec) * 1e6 + (double)(to.tv_nsec - from.tv_nsec) / 1e3;
-        if (spent < best)
-            best = spent;
-    }
-    return best;
-}
-
 int main(void)
 {
     static const char *names[] = {"cell_plan", "cell_check", "cell_rewrite"};
@@ -102,12 +84,11 @@ int main(void)
     struct job none = {nothing, 0};
     make_path();
     size_t least = stack_of(&none);
-    printf("\n## The controller's calls at k = 6\n\nThe best of %d calls, and the bytes of stack beyond those of a thread that calls nothing.\n\n", CALLS);
-    printf("| call | result | microseconds | bytes of stack |\n|---|---|---|---|\n");
+    printf("\n## The stack of the controller's calls\n\nAt k = 6 and version 5: the bytes beyond those of a thread that calls nothing.\n\n");
+    printf("| call | result | bytes of stack |\n|---|---|---|\n");
     for (int i = 0; i < 3; i++) {
-        double time = time_of(&jobs[i]);
         size_t stack = stack_of(&jobs[i]) - least;
-        printf("| `%s` | %lld | %.1f | %zu |\n", names[i], (long long)jobs[i].result, time, stack);
+        printf("| `%s` | %lld | %zu |\n", names[i], (long long)jobs[i].result, stack);
         if (jobs[i].result < 0)
             return 1;
     }

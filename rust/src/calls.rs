@@ -136,10 +136,10 @@ macro_rules! made_to {
             Call::WritePath { version, k } => $module::write_path(version, k, &$l.coords, &$l.speeds, &$l.blends, &mut $l.out).map(one),
             Call::MakeTable { k } => $module::make_table(k, &$l.coords, &$l.speeds, &$l.blends, &mut $l.table).map(|()| vec![]),
             Call::Plan { k } => $module::plan(k, &$l.table, &mut $l.order, &mut $l.totals, &mut $l.pivots).map(one),
-            Call::PlanPath { highest } => $module::plan_path(
-                &$l.bytes, highest, &mut $l.coords, &mut $l.speeds, &mut $l.blends, &mut $l.table, &mut $l.order, &mut $l.totals, &mut $l.pivots,
-            )
-            .map(|(version, k, total)| vec![version.into(), k.into(), one(total)[0]]),
+            Call::PlanPath { highest } => {
+                $module::plan_path(&$l.bytes, highest, &mut $l.table, &mut $l.order, &mut $l.totals, &mut $l.pivots)
+                    .map(|(version, k, total)| vec![version.into(), k.into(), one(total)[0]])
+            }
             Call::ForkBits { k } => $module::fork_bits(k, &$l.order, &mut $l.bits).map(|()| vec![]),
             Call::OrderOfBits { k } => $module::order_of_bits(k, &$l.bits, &mut $l.order).map(|()| vec![]),
             Call::OrderTotal { k } => $module::order_total(k, &$l.order, &$l.table).map(one),

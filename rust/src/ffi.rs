@@ -28,9 +28,7 @@ mod declared {
             order: *mut u16, order_len: usize, totals: *mut u64, totals_len: usize, pivots: *mut u16, pivots_len: usize,
         ) -> i64;
         pub fn ffi_plan_path(
-            bytes: *const u8, bytes_len: usize, highest: u16,
-            coords: *mut i32, coords_len: usize, speeds: *mut u16, speeds_len: usize, blends: *mut u16, blends_len: usize,
-            table: *mut u32, table_len: usize,
+            bytes: *const u8, bytes_len: usize, highest: u16, table: *mut u32, table_len: usize,
             order: *mut u16, order_len: usize, totals: *mut u64, totals_len: usize, pivots: *mut u16, pivots_len: usize,
         ) -> i64;
         pub fn ffi_fork_bits(k: u16, order: *const u16, order_len: usize, bits: *mut u8, bits_len: usize) -> i64;
@@ -101,28 +99,21 @@ pub fn plan(k: u16, table: &[u32], order: &mut [u16], totals: &mut [u64], pivots
     answer(unsafe { declared::ffi_plan(k, table.as_ptr(), table.len(), order, order_len, totals, totals_len, pivots, pivots_len) })
 }
 
-/// `run::plan_path`: version, k and the total.
-#[allow(clippy::too_many_arguments)]
+/// `path_plan::plan_path`: version, k and the total.
 pub fn plan_path(
     bytes: &[u8],
     highest: u16,
-    coords: &mut [i32],
-    speeds: &mut [u16],
-    blends: &mut [u16],
     table: &mut [u32],
     order: &mut [u16],
     totals: &mut [u64],
     pivots: &mut [u16],
 ) -> Result<(u16, u16, u64), u16> {
-    let (coords_len, speeds_len, blends_len, table_len) = (coords.len(), speeds.len(), blends.len(), table.len());
-    let (order_len, totals_len, pivots_len) = (order.len(), totals.len(), pivots.len());
-    let (coords, speeds, blends, table) = (coords.as_mut_ptr(), speeds.as_mut_ptr(), blends.as_mut_ptr(), table.as_mut_ptr());
-    let (order, totals, pivots) = (order.as_mut_ptr(), totals.as_mut_ptr(), pivots.as_mut_ptr());
+    let (table_len, order_len, totals_len, pivots_len) = (table.len(), order.len(), totals.len(), pivots.len());
+    let (table, order, totals, pivots) = (table.as_mut_ptr(), order.as_mut_ptr(), totals.as_mut_ptr(), pivots.as_mut_ptr());
     #[rustfmt::skip]
     let result = unsafe {
         declared::ffi_plan_path(
-            bytes.as_ptr(), bytes.len(), highest, coords, coords_len, speeds, speeds_len, blends, blends_len,
-            table, table_len, order, order_len, totals, totals_len, pivots, pivots_len,
+            bytes.as_ptr(), bytes.len(), highest, table, table_len, order, order_len, totals, totals_len, pivots, pivots_len,
         )
     };
     answer(result).map(unpacked).map(|(total, version, k)| (version, k, total))

@@ -2,8 +2,9 @@
 //!
 //! `ffi` declares the proved library's exported functions and the controller's calls once and wraps each once. `reading` is an independent
 //! reading of document 01, written from the document. `calls` makes any call to either and compares them on every buffer. `cases`, `world`
-//! and `damage` are the inputs from a fixed seed, good ones and ones with faults; `guard` has buffers between guard pages. `plain` and
-//! `cubic` are plain Rust planners for the benchmark, `plain_path` a plain reader.
+//! and `damage` are the inputs from a fixed seed, good ones and ones with faults; `guard` has buffers between guard pages. `plain`,
+//! `plain_path`, `plain_times`, `plain_files` and `plain_jobs` are plain Rust that does what the calls do, for the benchmark, and `cubic` is
+//! another method.
 
 pub mod calls;
 pub mod cases;
@@ -12,7 +13,10 @@ pub mod damage;
 pub mod ffi;
 pub mod guard;
 pub mod plain;
+mod plain_files;
+pub mod plain_jobs;
 pub mod plain_path;
+pub mod plain_times;
 pub mod random;
 pub mod reading;
 pub mod world;

@@ -3,8 +3,8 @@
 //!
 //! There are two loop orders, and each is written once: `Columns` is the paper's (for each stop its candidates), `Rows` goes along the
 //! table's rows (for each candidate the stops that it may come before). `Checked` and `Unchecked` reach the numbers with and without the
-//! bounds checks. `Slices` goes along the rows too, in the way that spares most checks: by slices and iterators. `Pairs` is the proved
-//! planner's shape: the paper's order with two neighbouring stops at a time.
+//! bounds checks. `Slices` goes along the rows too, in the way that spares most checks: by slices and iterators. `Pairs` is the paper's
+//! order with two neighbouring stops at a time.
 
 use std::ops::Range;
 

@@ -1,7 +1,13 @@
-//! Plain Rust reading of a path, for the benchmark: the whole path is judged, and then stored.
+//! Plain Rust reading and writing of paths, for the benchmark. The whole path is judged before anything lent is written.
+//!
+//! The records are gone through in two ways: `Indices` computes where each begins, `Chunks` takes them off the front as arrays of a known
+//! size.
+
+use crate::reading::Stop;
 
 /// The content of the record that begins at a place.
-fn record(bytes: &[u8], at: usize, kind: u16, length: usize) -> Result<&[u8], u16> {
+#[inline(always)]
+pub(crate) fn record(bytes: &[u8], at: usize, kind: u16, length: usize) -> Result<&[u8], u16> {
     let rest = &bytes[at..];
     if rest.len() < 4 {
         return Err(1);
@@ -15,15 +21,33 @@ fn record(bytes: &[u8], at: usize, kind: u16, length: usize) -> Result<&[u8], u1
     rest.get(4..2 + length).ok_or(1)
 }
 
-/// x, y, z, speed and blend of a stop's content.
-fn stop(content: &[u8], version: u16) -> ([i32; 3], u16, u16) {
+/// The stop of a content.
+#[inline(always)]
+fn stop(content: &[u8], version: u16) -> Stop {
     let wide = |at: usize| i32::from_le_bytes([content[at], content[at + 1], content[at + 2], content[at + 3]]);
     let two = |at: usize| u16::from_le_bytes([content[at], content[at + 1]]);
-    ([wide(0), wide(4), wide(8)], two(12), if version == 5 { two(14) } else { 0 })
+    Stop { at: [wide(0), wide(4), wide(8)], speed: two(12), blend: if version == 5 { two(14) } else { 0 } }
 }
 
-/// Reads a path into lent buffers.
-pub fn read_path(bytes: &[u8], highest: u16, coords: &mut [i32], speeds: &mut [u16], blends: &mut [u16]) -> Result<(u16, u16), u16> {
+/// Whether every field is in range.
+#[inline(always)]
+pub(crate) fn in_range(stop: &Stop) -> bool {
+    stop.at.iter().all(|x| (-20_000..=20_000).contains(x)) && (1..=2_000).contains(&stop.speed) && stop.blend <= 500
+}
+
+/// The length of a stop's record.
+#[inline(always)]
+fn stop_length(version: u16) -> usize {
+    if version == 5 {
+        18
+    } else {
+        16
+    }
+}
+
+/// The version and k of a path's head.
+#[inline(always)]
+fn head(bytes: &[u8], highest: u16) -> Result<(u16, u16), u16> {
     if highest != 4 && highest != 5 {
         return Err(4);
     }
@@ -35,27 +59,184 @@ pub fn read_path(bytes: &[u8], highest: u16, coords: &mut [i32], speeds: &mut [u
     if k > 10 {
         return Err(5);
     }
-    let n = 1usize << k;
-    if coords.len() < 3 * n || speeds.len() < n || blends.len() < n {
-        return Err(8);
-    }
-    let length = if version == 5 { 18 } else { 16 };
-    for i in 0..n {
-        let (at, speed, blend) = stop(record(bytes, 8 + i * (2 + length), 2, length)?, version);
-        if at.iter().any(|x| !(-20_000..=20_000).contains(x)) || !(1..=2_000).contains(&speed) || blend > 500 {
-            return Err(6);
-        }
-    }
-    let end = 8 + n * (2 + length);
-    record(bytes, end, 3, 2)?;
-    if bytes.len() > end + 4 {
+    Ok((version, k))
+}
+
+/// Judges the end record, which begins at a place, and that nothing follows it.
+#[inline(always)]
+pub(crate) fn end(bytes: &[u8], at: usize) -> Result<(), u16> {
+    record(bytes, at, 3, 2)?;
+    if bytes.len() > at + 4 {
         return Err(7);
     }
-    for i in 0..n {
-        let (at, speed, blend) = stop(&bytes[12 + i * (2 + length)..], version);
-        coords[3 * i..3 * i + 3].copy_from_slice(&at);
-        speeds[i] = speed;
-        blends[i] = blend;
+    Ok(())
+}
+
+/// Whether lent buffers have room for n stops.
+#[inline(always)]
+pub(crate) fn stops_fit(n: usize, coords: &[i32], speeds: &[u16], blends: &[u16]) -> bool {
+    coords.len() >= 3 * n && speeds.len() >= n && blends.len() >= n
+}
+
+/// How the stops of a path are gone through, behind its head.
+pub trait Way {
+    /// Judges n stops and the end, and hands each stop over.
+    fn judge(bytes: &[u8], version: u16, n: usize, each: impl FnMut(usize, Stop)) -> Result<(), u16>;
+
+    /// Stores the stops of a judged path in lent buffers that have room.
+    fn store(bytes: &[u8], version: u16, n: usize, coords: &mut [i32], speeds: &mut [u16], blends: &mut [u16]);
+}
+
+/// By indices.
+pub struct Indices;
+
+impl Way for Indices {
+    #[inline(always)]
+    fn judge(bytes: &[u8], version: u16, n: usize, mut each: impl FnMut(usize, Stop)) -> Result<(), u16> {
+        let length = stop_length(version);
+        for i in 0..n {
+            let stop = stop(record(bytes, 8 + i * (2 + length), 2, length)?, version);
+            if !in_range(&stop) {
+                return Err(6);
+            }
+            each(i, stop);
+        }
+        end(bytes, 8 + n * (2 + length))
     }
+
+    #[inline(always)]
+    fn store(bytes: &[u8], version: u16, n: usize, coords: &mut [i32], speeds: &mut [u16], blends: &mut [u16]) {
+        for i in 0..n {
+            let stop = stop(&bytes[12 + i * (2 + stop_length(version))..], version);
+            coords[3 * i..3 * i + 3].copy_from_slice(&stop.at);
+            speeds[i] = stop.speed;
+            blends[i] = stop.blend;
+        }
+    }
+}
+
+/// By chunks.
+pub struct Chunks;
+
+/// The stop of a record of SIZE bytes, 18 in version 4 and 20 in version 5.
+#[inline(always)]
+fn stop_in<const SIZE: usize>(record: &[u8; SIZE]) -> Stop {
+    stop(&record[4..], if SIZE == 20 { 5 } else { 4 })
+}
+
+#[inline(always)]
+fn judge<const SIZE: usize>(bytes: &[u8], n: usize, mut each: impl FnMut(usize, Stop)) -> Result<(), u16> {
+    let mut rest = &bytes[8..];
+    for i in 0..n {
+        record(rest, 0, 2, SIZE - 2)?;
+        let (record, after) = rest.split_first_chunk::<SIZE>().ok_or(1u16)?;
+        let stop = stop_in(record);
+        if !in_range(&stop) {
+            return Err(6);
+        }
+        each(i, stop);
+        rest = after;
+    }
+    end(rest, 0)
+}
+
+#[inline(always)]
+fn store<const SIZE: usize>(bytes: &[u8], coords: &mut [[i32; 3]], speeds: &mut [u16], blends: &mut [u16]) {
+    let records = bytes[8..].as_chunks::<SIZE>().0;
+    for (((record, at), speed), blend) in records.iter().zip(coords).zip(speeds).zip(blends) {
+        let stop = stop_in(record);
+        (*at, *speed, *blend) = (stop.at, stop.speed, stop.blend);
+    }
+}
+
+impl Way for Chunks {
+    #[inline(always)]
+    fn judge(bytes: &[u8], version: u16, n: usize, each: impl FnMut(usize, Stop)) -> Result<(), u16> {
+        if version == 5 {
+            judge::<20>(bytes, n, each)
+        } else {
+            judge::<18>(bytes, n, each)
+        }
+    }
+
+    #[inline(always)]
+    fn store(bytes: &[u8], version: u16, n: usize, coords: &mut [i32], speeds: &mut [u16], blends: &mut [u16]) {
+        let (coords, speeds, blends) = (&mut coords.as_chunks_mut::<3>().0[..n], &mut speeds[..n], &mut blends[..n]);
+        if version == 5 {
+            store::<20>(bytes, coords, speeds, blends);
+        } else {
+            store::<18>(bytes, coords, speeds, blends);
+        }
+    }
+}
+
+/// Reads a path into lent buffers.
+pub fn read<W: Way>(bytes: &[u8], highest: u16, coords: &mut [i32], speeds: &mut [u16], blends: &mut [u16]) -> Result<(u16, u16), u16> {
+    let (version, k) = head(bytes, highest)?;
+    let n = 1usize << k;
+    if !stops_fit(n, coords, speeds, blends) {
+        return Err(8);
+    }
+    W::judge(bytes, version, n, |_, _| ())?;
+    W::store(bytes, version, n, coords, speeds, blends);
     Ok((version, k))
+}
+
+/// Reads a path into lent buffers, by indices.
+pub fn read_path(bytes: &[u8], highest: u16, coords: &mut [i32], speeds: &mut [u16], blends: &mut [u16]) -> Result<(u16, u16), u16> {
+    read::<Indices>(bytes, highest, coords, speeds, blends)
+}
+
+/// Reads a path into the caller's own stops, which may be written before the whole is judged. `fit` tests what was lent, directly after k.
+#[inline(always)]
+pub(crate) fn read_stops<W: Way>(
+    bytes: &[u8],
+    highest: u16,
+    fit: impl FnOnce(u16) -> Result<(), u16>,
+    stops: &mut [Stop],
+) -> Result<(u16, u16), u16> {
+    let (version, k) = head(bytes, highest)?;
+    fit(k)?;
+    W::judge(bytes, version, 1 << k, |i, stop| stops[i] = stop)?;
+    Ok((version, k))
+}
+
+/// Writes stops in records of SIZE bytes.
+#[inline(always)]
+fn write_stops<const SIZE: usize>(stops: &[Stop], out: &mut [u8]) {
+    for (stop, record) in stops.iter().zip(out.as_chunks_mut::<SIZE>().0) {
+        record[..2].copy_from_slice(&(SIZE as u16 - 2).to_le_bytes());
+        record[2..4].copy_from_slice(&2u16.to_le_bytes());
+        for (axis, x) in stop.at.iter().enumerate() {
+            record[4 + 4 * axis..8 + 4 * axis].copy_from_slice(&x.to_le_bytes());
+        }
+        record[16..18].copy_from_slice(&stop.speed.to_le_bytes());
+        if SIZE == 20 {
+            record[18..20].copy_from_slice(&stop.blend.to_le_bytes());
+        }
+    }
+}
+
+/// Writes 2^k good stops as a path: 4 for the version, 13, and 8 for the output. Gives the count of bytes.
+pub(crate) fn write_path(version: u16, k: u16, stops: &[Stop], out: &mut [u8]) -> Result<usize, u16> {
+    if version != 4 && version != 5 {
+        return Err(4);
+    }
+    if version == 4 && stops.iter().any(|stop| stop.blend != 0) {
+        return Err(13);
+    }
+    let size = 8 + stops.len() * (2 + stop_length(version)) + 4;
+    let out = out.get_mut(..size).ok_or(8u16)?;
+    let (head, rest) = out.split_at_mut(8);
+    let (body, end) = rest.split_at_mut(size - 12);
+    for (place, number) in head.as_chunks_mut::<2>().0.iter_mut().zip([6, 1, version, k]) {
+        *place = number.to_le_bytes();
+    }
+    if version == 5 {
+        write_stops::<20>(stops, body);
+    } else {
+        write_stops::<18>(stops, body);
+    }
+    end.copy_from_slice(&[2, 0, 3, 0]);
+    Ok(size)
 }

@@ -77,6 +77,19 @@ impl World {
         World::of(random, k, version, coords, speeds, blends)
     }
 
+    /// A world whose stops take their whole range, with the table of their travel times: what the benchmark measures.
+    pub fn wide(random: &mut Random, k: u16, version: u16) -> World {
+        let n = 1usize << k;
+        let coords = (0..3 * n).map(|_| random.below(40_001) as i32 - 20_000).collect();
+        let speeds = (0..n).map(|_| 1 + random.below(2_000) as u16).collect();
+        let most = if version == 5 { 501 } else { 1 };
+        let blends = (0..n).map(|_| random.below(most) as u16).collect();
+        let mut world = World::of(random, k, version, coords, speeds, blends);
+        reading::make_table(k, &world.coords, &world.speeds, &world.blends, &mut world.table).expect("good stops");
+        reading::write_order_file(k, &world.order, &world.table, &mut world.file).expect("an allowed order");
+        world
+    }
+
     /// The world of some good stops.
     fn of(random: &mut Random, k: u16, version: u16, coords: Vec<i32>, speeds: Vec<u16>, blends: Vec<u16>) -> World {
         let n = 1usize << k;

@@ -160,7 +160,8 @@ fn names_of_the_refusals() {
     let (text, code) = (text("docs/CALLS.md"), text("crates/base/src/lib.rt"));
     let lines = text.lines().skip_while(|line| !line.starts_with("| No. |")).skip(2).take_while(|line| line.starts_with('|'));
     let said: Vec<String> = lines.map(|line| format!("pub const {}: u16 = {};", cells(line)[1].trim_matches('`'), cells(line)[0])).collect();
-    let written: Vec<&str> = code.lines().filter(|line| line.starts_with("pub const") && line.contains(": u16 = ")).collect();
+    let constant = |line: &&str| line.starts_with("pub const") && line.contains(": u16 = ") && !line.contains(" MAX_K:");
+    let written: Vec<&str> = code.lines().filter(constant).collect();
     assert_eq!(said.len(), 13);
     assert_eq!(said, written);
 }

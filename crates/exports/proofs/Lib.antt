@@ -1,3 +1,3 @@
 -- Laws of the exported calls.
-pub mod AtMost
+mod Exports
 pub mod Small

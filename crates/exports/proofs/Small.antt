@@ -1,25 +1,22 @@
 -- No value that a call gives is cut: totals of 32-bit entries have 42 bits, and a signed result holds them beside a version and k.
 use mathlib.Core.Path.{_≡_, ap}
 use mathlib.Core.List.{List}
-use Prim.Native.Nat.{ℕ, _+_, _*_, _≤_, _<_}
+use Prim.Native.Nat.{ℕ, _+_, _*_, _≤_}
 use native.Mathlib.Omega.{arith}
 use lib.IntN.{pos}
 use lib.ListN.{length}
 use Rattle.tree.specs.Total.{total}
 use Rattle.tree.proofs.Small.{total-small}
-use Rattle.ffi.specs.Signed.{given, packed}
-use Rattle.ffi.proofs.AtMost.{kept-below}
-
--- a value of 63 bits is given as it is, a count of bytes among them
-pub value-given : (v : ℕ) → v < 9223372036854775807 → given v ≡ pos v
-unfolding given
-value-given v h = ap pos (kept-below 9223372036854775807 v h)
+use Rattle.signed.specs.Result.{given}
+use Rattle.signed.proofs.AtMost.{kept-below}
+use Rattle.signed.proofs.Result.{value-given}
+use Rattle.exports.specs.Values.{mostPacked, totalUnit, versionUnit, packed}
 
 -- a total of up to 1,024 stops by any times of 32 bits is given whole, by itself and beside a version and k
 pub total-given : (t : ℕ → ℕ → ℕ) (o : List ℕ) → ((a b : ℕ) → t a b ≤ 4294967295) → length o ≤ 1024 → given (total t o) ≡ pos (total t o)
 total-given t o h b = value-given (total t o) (omega (arith, total-small t o h b))
 
 pub total-packed : (t : ℕ → ℕ → ℕ) (o : List ℕ) (version k : ℕ) → ((a b : ℕ) → t a b ≤ 4294967295) → length o ≤ 1024
-    → packed (total t o) version k ≡ total t o * 1048576 + version * 65536 + k
+    → packed (total t o) version k ≡ total t o * totalUnit + version * versionUnit + k
 unfolding packed
-total-packed t o version k h b = ap (λ (x : ℕ). x * 1048576 + version * 65536 + k) (kept-below 4398046511103 (total t o) (total-small t o h b))
+total-packed t o version k h b = ap (λ (x : ℕ). x * totalUnit + version * versionUnit + k) (kept-below mostPacked (total t o) (total-small t o h b))

@@ -1,3 +1,3 @@
 -- The exported calls: answers as signed numbers.
-pub mod Signed
-pub mod Results
+pub mod Exported
+pub mod Values

@@ -8,10 +8,13 @@ use lib.ListN.{length, getD, take, drop, length-append, length-take, length-drop
 use lib.Seq.{ext-getD, getD-take, getD-drop, take-at, drop-at, take-add, length-take-le, drop-drop}
 use Rattle.base.specs.Lists.{tabulate}
 use Rattle.base.proofs.Lists.{length-tabulate, tabulate-of, tabulate-cong, tabulate-suc}
-use Rattle.records.specs.Field.{number, bytesOf, areBytes}
+use Rattle.records.specs.Field.{numberOf, bytesOf, areBytes}
 use Rattle.records.proofs.FieldLaws.{length-bytesOf, number-bytesOf, bytesOf-number, areBytes-take, areBytes-drop}
 use Rattle.records.proofs.RecordLaws.{length-recordBytes}
-use Rattle.order_file.specs.File.{stopBytes, headBytes, stopsBytes, forksBytes, endBytes, orderFile, fileSize}
+use Rattle.tree.specs.Total.{total}
+use Rattle.orders.specs.Allowed.{forksOf}
+use Rattle.orders.specs.Bits.{byteCount, bitString}
+use Rattle.order_file.specs.File.{stopBytes, headBytes, stopsBytes, forksBytes, endBytes, orderFile, fileFor, fileSize}
 use Rattle.order_file.specs.Reading.{stopsIn}
 
 -- ---- lengths
@@ -40,10 +43,15 @@ unfolding endBytes
 length-end = length-recordBytes _ []
 
 -- the whole file
-pub length-file : (k sum : ℕ) (o : List ℕ) (F : ℕ) → length o ≡ 2 ^ k → length (orderFile k sum o F) ≡ fileSize (2 ^ k)
+pub length-file : (k sum : ℕ) (o string : List ℕ) → length o ≡ 2 ^ k → length string ≡ byteCount (2 ^ k) → length (orderFile k sum o string) ≡ fileSize (2 ^ k)
 unfolding orderFile
-length-file k sum o F e =
-    rw (length-append, length-append, length-append, length-head, length-stops, length-forks, length-bytesOf, length-end) (omega arith)
+length-file k sum o string e f =
+    rw (length-append, length-append, length-append, length-head, length-stops, length-forks, length-end) (omega arith)
+
+-- the file for an order
+pub length-fileFor : (k : ℕ) (t : ℕ → ℕ → ℕ) (o : List ℕ) → length o ≡ 2 ^ k → length (fileFor k t o) ≡ fileSize (2 ^ k)
+unfolding fileFor
+length-fileFor k t o e = length-file k (total t o) o (bitString k (forksOf k o)) e (length-bytesOf (byteCount (2 ^ k)) (forksOf k o))
 
 -- ---- stops
 
@@ -55,7 +63,7 @@ stopBytes-snoc (a ∷ o) b = rw (stopBytes-snoc o b) (sym (append-assoc (bytesOf
 
 -- stop p of the bytes of stops
 stop-read : (o rest : List ℕ) → ((p : ℕ) → p < length o → getD o p 0 < 65536) → (p : ℕ) → p < length o
-    → number (take 2 (drop (2 * p) (stopBytes o ++ rest))) ≡ getD o p 0
+    → numberOf (take 2 (drop (2 * p) (stopBytes o ++ rest))) ≡ getD o p 0
 unfolding stopBytes
 stop-read [] rest small p b = absurd (omega arith)
 stop-read (a ∷ o) rest small zero b =
@@ -70,7 +78,7 @@ stop-read (a ∷ o) rest small (suc p) b =
 pub stops-read : (n : ℕ) (o rest : List ℕ) → length o ≡ n → ((p : ℕ) → p < n → getD o p 0 < 65536) → stopsIn n (stopBytes o ++ rest) ≡ o
 unfolding stopsIn
 stops-read n o rest e small =
-    sym (tabulate-of n (λ p. number (take 2 (drop (2 * p) (stopBytes o ++ rest)))) o 0 e
+    sym (tabulate-of n (λ p. numberOf (take 2 (drop (2 * p) (stopBytes o ++ rest)))) o 0 e
     (λ p b. sym (stop-read o rest (λ q c. small q (omega arith)) p (omega arith))))
 
 -- bytes that were read as stops are written again
@@ -81,9 +89,9 @@ stops-written (suc n) s bytes h =
     let x : List ℕ = take 2 (drop (2 * n) s) in
     let l : length x ≡ 2 = length-take-le 2 (drop (2 * n) s) (rw length-drop (omega arith)) in
     let e : 2 * suc n ≡ 2 * n + 2 = omega arith in
-    let w : bytesOf 2 (number x) ≡ x = ap (λ (i : ℕ). bytesOf i (number x)) (sym l) ∙ bytesOf-number x (areBytes-take 2 _ (areBytes-drop (2 * n) s bytes)) in
-    ap stopBytes (tabulate-suc n (λ p. number (take 2 (drop (2 * p) s))))
-    ∙ stopBytes-snoc (tabulate n (λ p. number (take 2 (drop (2 * p) s)))) (number x)
+    let w : bytesOf 2 (numberOf x) ≡ x = ap (λ (i : ℕ). bytesOf i (numberOf x)) (sym l) ∙ bytesOf-number x (areBytes-take 2 _ (areBytes-drop (2 * n) s bytes)) in
+    ap stopBytes (tabulate-suc n (λ p. numberOf (take 2 (drop (2 * p) s))))
+    ∙ stopBytes-snoc (tabulate n (λ p. numberOf (take 2 (drop (2 * p) s)))) (numberOf x)
     ∙ rw (e, take-add (2 * n) 2 s, w) (ap (λ (y : List ℕ). y ++ x) (stops-written n s bytes (omega arith)))
 
 -- as many stops as were asked for
@@ -109,7 +117,7 @@ part-part a b c s h = ext-getD 0 (take a (drop b (take c s))) (take a (drop b s)
 pub stops-part : (n b c : ℕ) (s : List ℕ) → b + 2 * n ≤ c → stopsIn n (drop b (take c s)) ≡ stopsIn n (drop b s)
 unfolding stopsIn
 stops-part n b c s h =
-    tabulate-cong n (λ p. number (take 2 (drop (2 * p) (drop b (take c s))))) (λ p. number (take 2 (drop (2 * p) (drop b s)))) each
+    tabulate-cong n (λ p. numberOf (take 2 (drop (2 * p) (drop b (take c s))))) (λ p. numberOf (take 2 (drop (2 * p) (drop b s)))) each
   where
-    each : (p : ℕ) → p < n → number (take 2 (drop (2 * p) (drop b (take c s)))) ≡ number (take 2 (drop (2 * p) (drop b s)))
-    each p l = rw (drop-drop (2 * p) b (take c s), drop-drop (2 * p) b s) (ap number (part-part 2 (b + 2 * p) c s (omega arith)))
+    each : (p : ℕ) → p < n → numberOf (take 2 (drop (2 * p) (drop b (take c s)))) ≡ numberOf (take 2 (drop (2 * p) (drop b s)))
+    each p l = rw (drop-drop (2 * p) b (take c s), drop-drop (2 * p) b s) (ap numberOf (part-part 2 (b + 2 * p) c s (omega arith)))

@@ -1,8 +1,8 @@
 -- Laws of the crate's definitions.
+pub mod Numbers
 pub mod Bytes
 pub mod Stages
 pub mod Sizes
-pub mod Outcome
+pub mod Calls
 pub mod Putting
 pub mod RoundTrip
-pub mod Examples

@@ -1,189 +1,202 @@
--- A file read record by record: what each record's judgement says of the whole, and what a file says whose records are all good.
+-- A file read record by record: each record is judged where it is due, and a file whose records are all good says what stands at fixed
+-- places of it.
 use mathlib.Core.Path.{_≡_, refl, sym, ap, _∙_}
-use mathlib.Core.Bool.{cond}
+use mathlib.Core.Bool.{Bool}
 use mathlib.Core.List.{List}
 use Prim.Native.Nat.{ℕ, _+_, _*_, _-_, _^_, _≤_, _<_}
-use native.Mathlib.Decide.{decLt}
+use native.Mathlib.Decide.{decLe}
 use native.Mathlib.Omega.{arith}
-use lib.Dec.{eqb}
+use lib.Dec.{eqb, leb}
 use lib.ListN.{length, take, drop, length-drop}
 use lib.Seq.{take-take, drop-drop}
-use borrow.Author.Tests.{eq-eqb, ne-eqb}
+use borrow.Author.Tests.{eq-eqb, ne-eqb, le-leb, lt-leb, leb-true, eqb-true}
 use Rattle.base.specs.Refusal.{wrongK, trailingBytes}
-use Rattle.records.specs.Field.{number}
-use Rattle.records.specs.Record.{Taken, refused, takeRecord, takenNumber, recordLength, orderKind, stopsKind, forksKind, endKind}
-use Rattle.records.proofs.RecordLaws.{number-bad, number-good, taken-whole}
+use Rattle.base.specs.Outcome.{Outcome, gives, need, unless, andThen, number}
+use Rattle.base.proofs.Outcome.{passed, unless-zero, unless-refused, unless-passed}
+use Rattle.records.specs.Field.{numberOf}
+use Rattle.records.specs.Record.{Taken, taken, takeRecord, recordLength, orderKind, stopsKind, forksKind, endKind}
+use Rattle.records.proofs.RecordLaws.{by-taken, number-good, taken-whole}
 use Rattle.records.proofs.LengthLaws.{order-length, stops-length, forks-length, end-length}
 use Rattle.orders.specs.Bits.{byteCount}
-use Rattle.orders.proofs.Same.{equal}
-use Rattle.order_file.specs.File.{totalPlace, stopsPlace, forksPlace, endPlace, fileSize}
-use Rattle.order_file.specs.Reading.{anyVersion, Said, said, notSaid, stopsIn, endThen, forksThen, stopsThen, headThen, readRecords, recordsNumber}
+use Rattle.order_file.specs.File.{stopsRecord, totalPlace, stopsPlace, forksPlace, endPlace, fileSize}
+use Rattle.order_file.specs.Reading.{anyVersion, Contents, contents, stopsIn, readRecords}
 use Rattle.order_file.proofs.Bytes.{stops-part}
 
--- a refused record refuses the file
-refused-stage : (f : Taken → Said) → ((r : ℕ) → f (refused r) ≡ notSaid r) → (t : Taken) → (takenNumber t ≡ 0 → ⊥) → recordsNumber (f t) ≡ takenNumber t
-unfolding recordsNumber
-refused-stage f e t h = ap (λ x. recordsNumber (f x)) (number-bad t h) ∙ rw (e (takenNumber t))
+-- a record, and what comes after it where it is whole
+take-then : (kind long : ℕ) (s : List ℕ) (next : Taken → Outcome Contents) (rest : Outcome Contents)
+    → next (taken (take (long - 2) (drop 4 s)) (drop (2 + long) s)) ≡ rest
+    → andThen (takeRecord kind long s) next ≡ unless (number (takeRecord kind long s)) rest
+take-then kind long s next rest e =
+    by-taken kind long s (λ t. andThen t next ≡ unless (number t) rest) (λ w. e) (λ n f. sym (unless-refused n rest f))
+
+-- a record's number decides, or what comes after it does
+module _ (o : Outcome Contents) (a : ℕ) (rest : Outcome Contents) (is : o ≡ unless a rest) (r : ℕ) (e : r ≡ a) where
+  pub record-bad : (r ≡ 0 → ⊥) → r ≡ number o
+  record-bad f = sym (ap number (is ∙ ap (λ (x : ℕ). unless x rest) (sym e) ∙ unless-refused r rest f))
+
+  pub record-good : r ≡ 0 → o ≡ rest
+  record-good z = is ∙ unless-zero a rest (sym e ∙ z)
 
 -- two drops as one
 drops : (a b c : ℕ) (s : List ℕ) → c ≡ b + a → drop a (drop b s) ≡ drop c s
 drops a b c s e = drop-drop a b s ∙ ap (λ (x : ℕ). drop x s) (sym e)
 
+-- nothing is left exactly if there is not more
+none-left : (a b : ℕ) → eqb (a - b) 0 ≡ leb a b
+none-left a b = go (decLe a b)
+  where
+    go : Dec (a ≤ b) → eqb (a - b) 0 ≡ leb a b
+    go (yes h) = rw (le-leb a b h) (eq-eqb (a - b) 0 (omega arith))
+    go (no h) = rw (lt-leb a b (omega arith)) (ne-eqb (a - b) 0 (λ z. h (omega arith)))
+
 module _ (k : ℕ) (file : List ℕ) where
+  abbrev n : ℕ
+  n = 2 ^ k
+
   -- the four records where they are due
-  abbrev pub headTaken : Taken
+  abbrev pub headTaken : Outcome Taken
   headTaken = takeRecord orderKind 4 file
 
-  abbrev pub stopsTaken : Taken
-  stopsTaken = takeRecord stopsKind (10 + 2 * 2 ^ k) (drop 6 file)
+  abbrev pub stopsTaken : Outcome Taken
+  stopsTaken = takeRecord stopsKind (10 + 2 * 2 ^ k) (drop stopsRecord file)
 
-  abbrev pub forksTaken : Taken
+  abbrev pub forksTaken : Outcome Taken
   forksTaken = takeRecord forksKind (2 + byteCount (2 ^ k)) (drop (forksPlace (2 ^ k)) file)
 
-  abbrev pub endTaken : Taken
+  abbrev pub endTaken : Outcome Taken
   endTaken = takeRecord endKind 2 (drop (endPlace (2 ^ k)) file)
 
   -- what they say
   abbrev pub ownK : ℕ
-  ownK = number (take 2 (drop 4 file))
+  ownK = numberOf (take 2 (drop 4 file))
 
   abbrev pub total : ℕ
-  total = number (take 8 (drop totalPlace file))
+  total = numberOf (take 8 (drop totalPlace file))
 
   abbrev pub stops : List ℕ
   stops = stopsIn (2 ^ k) (drop stopsPlace file)
 
-  abbrev pub bits : List ℕ
-  bits = take (byteCount (2 ^ k)) (drop (4 + forksPlace (2 ^ k)) file)
+  abbrev pub string : List ℕ
+  string = take (byteCount (2 ^ k)) (drop (4 + forksPlace (2 ^ k)) file)
 
-  -- ---- the head
+  abbrev pub says : Contents
+  says = contents total stops string
 
-  start : readRecords k file ≡ headThen k headTaken
-  unfolding readRecords
-  start = rw (order-length anyVersion)
+  -- what comes after each record
+  abbrev pub afterEnd : Outcome Contents
+  afterEnd = need (leb (length file) (fileSize n)) trailingBytes (gives says)
 
-  pub head-bad : (takenNumber headTaken ≡ 0 → ⊥) → recordsNumber (readRecords k file) ≡ takenNumber headTaken
-  unfolding headThen
-  head-bad h = ap recordsNumber start ∙ refused-stage (headThen k) (λ r. refl) headTaken h
+  abbrev pub afterForks : Outcome Contents
+  afterForks = unless (number endTaken) afterEnd
 
-  head-fields : takenNumber headTaken ≡ 0
-      → readRecords k file ≡ cond (eqb ownK k) (stopsThen (2 ^ k) (takeRecord stopsKind (recordLength stopsKind anyVersion (2 ^ k)) (drop 6 file))) (notSaid wrongK)
-  unfolding headThen
-  head-fields h = start ∙ rw (number-good orderKind 4 file h, take-take 2 2 (drop 4 file) (omega arith))
+  abbrev pub afterStops : Outcome Contents
+  afterStops = unless (number forksTaken) afterForks
 
-  pub head-k : takenNumber headTaken ≡ 0 → (ownK ≡ k → ⊥) → recordsNumber (readRecords k file) ≡ wrongK
-  unfolding recordsNumber
-  head-k h e = rw (head-fields h, ne-eqb ownK k e)
+  abbrev pub afterHead : Outcome Contents
+  afterHead = need (eqb ownK k) wrongK (unless (number stopsTaken) afterStops)
 
-  pub head-good : takenNumber headTaken ≡ 0 → ownK ≡ k → readRecords k file ≡ stopsThen (2 ^ k) stopsTaken
-  head-good h e = head-fields h ∙ rw (eq-eqb ownK k e, stops-length anyVersion (2 ^ k))
+  -- and how the definition says it
+  abbrev endNext : Contents → Taken → Outcome Contents
+  endNext f end = need (eqb (length (end .rest)) 0) trailingBytes (gives f)
 
-  -- ---- the stops
+  abbrev forksNext : ℕ → List ℕ → Taken → Outcome Contents
+  forksNext sum order forks =
+      andThen (takeRecord endKind (recordLength endKind anyVersion 0) (forks .rest)) (endNext (contents sum order (forks .content)))
 
-  pub stops-bad : readRecords k file ≡ stopsThen (2 ^ k) stopsTaken → (takenNumber stopsTaken ≡ 0 → ⊥) → recordsNumber (readRecords k file) ≡ takenNumber stopsTaken
-  unfolding stopsThen
-  stops-bad e h = ap recordsNumber e ∙ refused-stage (stopsThen (2 ^ k)) (λ r. refl) stopsTaken h
+  abbrev stopsNext : Taken → Outcome Contents
+  stopsNext stops =
+      andThen (takeRecord forksKind (recordLength forksKind anyVersion n) (stops .rest)) (forksNext (numberOf (take 8 (stops .content))) (stopsIn n (drop 8 (stops .content))))
 
-  pub stops-good : readRecords k file ≡ stopsThen (2 ^ k) stopsTaken → takenNumber stopsTaken ≡ 0 → readRecords k file ≡ forksThen total stops forksTaken
-  unfolding stopsThen
-  stops-good e h =
-      let n : ℕ = 2 ^ k in
-      let s : List ℕ = drop 6 file in
-      let long : 10 + 2 * n - 2 ≡ 8 + 2 * n = omega arith in
-      let inner : drop 4 s ≡ drop totalPlace file = drops 4 6 totalPlace file refl in
-      let whole : drop 8 (drop 4 s) ≡ drop stopsPlace file = rw inner (drops 8 totalPlace stopsPlace file refl) in
-      let past : drop (2 + (10 + 2 * n)) s ≡ drop (forksPlace n) file = drops (2 + (10 + 2 * n)) 6 (forksPlace n) file (omega arith) in
-      let sum : number (take 8 (take (8 + 2 * n) (drop 4 s))) ≡ total = rw (take-take 8 (8 + 2 * n) (drop 4 s) (omega arith), inner) in
-      let list : stopsIn n (drop 8 (take (8 + 2 * n) (drop 4 s))) ≡ stops = stops-part n 8 (8 + 2 * n) (drop 4 s) (omega arith) ∙ ap (stopsIn n) whole in
-      e ∙ rw (number-good stopsKind (10 + 2 * n) s h, long, forks-length anyVersion n, sum, list, past)
+  abbrev headNext : Taken → Outcome Contents
+  headNext head =
+      need (eqb (numberOf (take 2 (head .content))) k) wrongK
+      (andThen (takeRecord stopsKind (recordLength stopsKind anyVersion n) (head .rest)) stopsNext)
 
-  -- ---- the forks
+  end-is : endNext says (taken (take 0 (drop 4 (drop (endPlace n) file))) (drop 4 (drop (endPlace n) file))) ≡ afterEnd
+  end-is =
+      let left : length (drop 4 (drop (endPlace n) file)) ≡ length file - fileSize n = rw (length-drop, length-drop) (omega arith) in
+      ap (λ (t : Bool). need t trailingBytes (gives says)) (ap (λ (x : ℕ). eqb x 0) left ∙ none-left (length file) (fileSize n))
 
-  pub forks-bad : readRecords k file ≡ forksThen total stops forksTaken → (takenNumber forksTaken ≡ 0 → ⊥) → recordsNumber (readRecords k file) ≡ takenNumber forksTaken
-  unfolding forksThen
-  forks-bad e h = ap recordsNumber e ∙ refused-stage (forksThen total stops) (λ r. refl) forksTaken h
-
-  pub forks-good : readRecords k file ≡ forksThen total stops forksTaken → takenNumber forksTaken ≡ 0 → readRecords k file ≡ endThen total stops bits endTaken
-  unfolding forksThen
-  forks-good e h =
-      let n : ℕ = 2 ^ k in
+  forks-is : let s = drop (forksPlace n) file in
+      forksNext total stops (taken (take (2 + byteCount n - 2) (drop 4 s)) (drop (2 + (2 + byteCount n)) s)) ≡ afterForks
+  forks-is =
       let m : ℕ = byteCount n in
       let s : List ℕ = drop (forksPlace n) file in
       let long : 2 + m - 2 ≡ m = omega arith in
       let inner : drop 4 s ≡ drop (4 + forksPlace n) file = drops 4 (forksPlace n) (4 + forksPlace n) file (omega arith) in
       let past : drop (2 + (2 + m)) s ≡ drop (endPlace n) file = drops (2 + (2 + m)) (forksPlace n) (endPlace n) file (omega arith) in
-      e ∙ rw (number-good forksKind (2 + m) s h, long, end-length anyVersion, inner, past)
+      rw (long, inner, past, end-length anyVersion) (take-then endKind 2 (drop (endPlace n) file) (endNext says) afterEnd end-is)
 
-  -- ---- the end
+  stops-is : let s = drop stopsRecord file in
+      stopsNext (taken (take (10 + 2 * n - 2) (drop 4 s)) (drop (2 + (10 + 2 * n)) s)) ≡ afterStops
+  stops-is =
+      let s : List ℕ = drop stopsRecord file in
+      let long : 10 + 2 * n - 2 ≡ 8 + 2 * n = omega arith in
+      let inner : drop 4 s ≡ drop totalPlace file = drops 4 stopsRecord totalPlace file refl in
+      let whole : drop 8 (drop totalPlace file) ≡ drop stopsPlace file = drops 8 totalPlace stopsPlace file refl in
+      let past : drop (2 + (10 + 2 * n)) s ≡ drop (forksPlace n) file = drops (2 + (10 + 2 * n)) stopsRecord (forksPlace n) file (omega arith) in
+      let sum : take 8 (take (8 + 2 * n) (drop totalPlace file)) ≡ take 8 (drop totalPlace file) = take-take 8 (8 + 2 * n) (drop totalPlace file) (omega arith) in
+      let order : stopsIn n (drop 8 (take (8 + 2 * n) (drop totalPlace file))) ≡ stops = stops-part n 8 (8 + 2 * n) (drop totalPlace file) (omega arith) ∙ ap (stopsIn n) whole in
+      rw (long, inner, past, sum, order, forks-length anyVersion n)
+      (take-then forksKind (2 + byteCount n) (drop (forksPlace n) file) (forksNext total stops) afterForks forks-is)
 
-  pub end-bad : readRecords k file ≡ endThen total stops bits endTaken → (takenNumber endTaken ≡ 0 → ⊥) → recordsNumber (readRecords k file) ≡ takenNumber endTaken
-  unfolding endThen
-  end-bad e h = ap recordsNumber e ∙ refused-stage (endThen total stops bits) (λ r. refl) endTaken h
+  head-is : headNext (taken (take 2 (drop 4 file)) (drop stopsRecord file)) ≡ afterHead
+  head-is =
+      rw (take-take 2 2 (drop 4 file) (omega arith), stops-length anyVersion n)
+      (ap (need (eqb ownK k) wrongK) (take-then stopsKind (10 + 2 * n) (drop stopsRecord file) stopsNext afterStops stops-is))
 
-  end-fields : readRecords k file ≡ endThen total stops bits endTaken → takenNumber endTaken ≡ 0
-      → readRecords k file ≡ cond (eqb (length file - fileSize (2 ^ k)) 0) (said total stops bits) (notSaid trailingBytes)
-  unfolding endThen
-  end-fields e h =
-      let s : List ℕ = drop (endPlace (2 ^ k)) file in
-      let past : length (drop (2 + 2) s) ≡ length file - fileSize (2 ^ k) = rw (length-drop, length-drop) (omega arith) in
-      e ∙ rw (number-good endKind 2 s h, past)
+  -- the file by its records where they are due
+  pub records-are : readRecords k file ≡ unless (number headTaken) afterHead
+  unfolding readRecords
+  records-are = rw (order-length anyVersion) (take-then orderKind 4 file headNext afterHead head-is)
 
-  pub end-more : readRecords k file ≡ endThen total stops bits endTaken → takenNumber endTaken ≡ 0 → fileSize (2 ^ k) < length file
-      → recordsNumber (readRecords k file) ≡ trailingBytes
-  unfolding recordsNumber
-  end-more e h l = rw (end-fields e h, ne-eqb (length file - fileSize (2 ^ k)) 0 (λ z. absurd (omega arith)))
+  -- the file's own k, and bytes after the end record
+  pub own-good : ownK ≡ k → afterHead ≡ unless (number stopsTaken) afterStops
+  own-good e = rw (eq-eqb ownK k e)
 
-  pub end-good : readRecords k file ≡ endThen total stops bits endTaken → takenNumber endTaken ≡ 0 → length file ≤ fileSize (2 ^ k)
-      → readRecords k file ≡ said total stops bits
-  end-good e h l = end-fields e h ∙ rw (eq-eqb (length file - fileSize (2 ^ k)) 0 (omega arith))
+  pub own-bad : (ownK ≡ k → ⊥) → number afterHead ≡ wrongK
+  own-bad e = rw (ne-eqb ownK k e)
 
-  -- ---- all of them
+  pub end-more : fileSize (2 ^ k) < length file → number afterEnd ≡ trailingBytes
+  end-more h = rw (lt-leb (length file) (fileSize n) h)
 
-  -- what is known of a file whose records are not refused
+  pub end-exact : length file ≤ fileSize (2 ^ k) → number afterEnd ≡ 0
+  end-exact h = rw (le-leb (length file) (fileSize n) h)
+
+  -- ---- a file whose records are not refused
   pub record Whole : Type 0 where
-    pub head : takenNumber headTaken ≡ 0
+    pub head : number headTaken ≡ 0
     pub own : ownK ≡ k
-    pub order : takenNumber stopsTaken ≡ 0
-    pub forks : takenNumber forksTaken ≡ 0
-    pub end : takenNumber endTaken ≡ 0
+    pub order : number stopsTaken ≡ 0
+    pub forks : number forksTaken ≡ 0
+    pub end : number endTaken ≡ 0
     pub exact : length file ≤ fileSize (2 ^ k)
-    pub says : readRecords k file ≡ said total stops bits
 
-  pub whole : recordsNumber (readRecords k file) ≡ 0 → Whole
-  whole z = at-head (equal (takenNumber headTaken) 0)
-    where
-      at-last : takenNumber headTaken ≡ 0 → ownK ≡ k → takenNumber stopsTaken ≡ 0 → takenNumber forksTaken ≡ 0 → takenNumber endTaken ≡ 0
-          → readRecords k file ≡ endThen total stops bits endTaken → Dec (fileSize (2 ^ k) < length file) → Whole
-      at-last a b c d e f (yes l) = absurd (omega (arith, end-more f e l))
-      at-last a b c d e f (no l) =
-          let s : length file ≤ fileSize (2 ^ k) = omega arith in
-          record { head = a; own = b; order = c; forks = d; end = e; exact = s; says = end-good f e s }
+  pub whole : number (readRecords k file) ≡ 0 → Whole
+  whole z =
+      let head = unless-passed (number headTaken) afterHead (sym (ap number records-are) ∙ z) in
+      let own = passed (eqb ownK k) wrongK (unless (number stopsTaken) afterStops) (omega arith) (head .1) in
+      let order = unless-passed (number stopsTaken) afterStops (own .goes-on) in
+      let forks = unless-passed (number forksTaken) afterForks (order .1) in
+      let end = unless-passed (number endTaken) afterEnd (forks .1) in
+      let exact = passed (leb (length file) (fileSize n)) trailingBytes (gives says) (omega arith) (end .1) in
+      record {
+        head = head .0;
+        own = eqb-true _ _ (own .holds);
+        order = order .0;
+        forks = forks .0;
+        end = end .0;
+        exact = leb-true _ _ (exact .holds);
+      }
 
-      at-end : takenNumber headTaken ≡ 0 → ownK ≡ k → takenNumber stopsTaken ≡ 0 → takenNumber forksTaken ≡ 0
-          → readRecords k file ≡ endThen total stops bits endTaken → Dec (takenNumber endTaken ≡ 0) → Whole
-      at-end a b c d f (yes e) = at-last a b c d e f (decLt (fileSize (2 ^ k)) (length file))
-      at-end a b c d f (no e) = absurd (e (sym (end-bad f e) ∙ z))
+  -- says what stands at its places
+  pub whole-says : Whole → readRecords k file ≡ gives says
+  whole-says w =
+      records-are ∙ rw (w .head, eq-eqb _ _ (w .own), w .order, w .forks, w .end, le-leb _ _ (w .exact))
 
-      at-forks : takenNumber headTaken ≡ 0 → ownK ≡ k → takenNumber stopsTaken ≡ 0 → readRecords k file ≡ forksThen total stops forksTaken
-          → Dec (takenNumber forksTaken ≡ 0) → Whole
-      at-forks a b c f (yes d) = at-end a b c d (forks-good f d) (equal (takenNumber endTaken) 0)
-      at-forks a b c f (no d) = absurd (d (sym (forks-bad f d) ∙ z))
-
-      at-stops : takenNumber headTaken ≡ 0 → ownK ≡ k → readRecords k file ≡ stopsThen (2 ^ k) stopsTaken → Dec (takenNumber stopsTaken ≡ 0) → Whole
-      at-stops a b f (yes c) = at-forks a b c (stops-good f c) (equal (takenNumber forksTaken) 0)
-      at-stops a b f (no c) = absurd (c (sym (stops-bad f c) ∙ z))
-
-      at-k : takenNumber headTaken ≡ 0 → Dec (ownK ≡ k) → Whole
-      at-k a (yes b) = at-stops a b (head-good a b) (equal (takenNumber stopsTaken) 0)
-      at-k a (no b) = absurd (omega (arith, head-k a b))
-
-      at-head : Dec (takenNumber headTaken ≡ 0) → Whole
-      at-head (yes a) = at-k a (equal ownK k)
-      at-head (no a) = absurd (a (sym (head-bad a) ∙ z))
-
--- the forks' record of such a file is all there
-pub forks-there : (k : ℕ) (file : List ℕ) → Whole k file → 4 + forksPlace (2 ^ k) + byteCount (2 ^ k) ≤ length file
-forks-there k file w =
+-- the fork string of such a file is all there
+pub string-there : (k : ℕ) (file : List ℕ) → Whole k file → 4 + forksPlace (2 ^ k) + byteCount (2 ^ k) ≤ length file
+string-there k file w =
     let s : List ℕ = drop (forksPlace (2 ^ k)) file in
     let t = taken-whole forksKind (2 + byteCount (2 ^ k)) s _ _ (number-good forksKind (2 + byteCount (2 ^ k)) s (w .forks)) in
     omega (arith, t .enough, length-drop (forksPlace (2 ^ k)) file)

@@ -1,4 +1,6 @@
--- Order files: their bytes, what these say, and what the calls give.
+-- Order files: their bytes, what these say, and what the calls come to.
 pub mod File
 pub mod Reading
-pub mod Answer
+pub mod Write
+pub mod Read
+pub mod Local

@@ -12,13 +12,15 @@ use lib.Dec.{ltb}
 use lib.ListN.{length, getD}
 use lib.Pow.{pow-pos}
 use borrow.Author.Tests.{lt-ltb, ltb-true}
-use Rattle.base.specs.Refusal.{accepted, noSuchStop, notAllowed}
+use Rattle.base.specs.Refusal.{noSuchStop, notAllowed}
+use Rattle.base.specs.Outcome.{gives, refuses, number}
+use Rattle.base.proofs.Outcome.{passed}
 use Rattle.tree.specs.Order.{orderOf, Allowed}
 use Rattle.tree.specs.Neighbour.{mayFollow, inPlace, Meets}
 use Rattle.tree.proofs.Graph.{mayFollow-iff}
 use Rattle.tree.proofs.Theorem7.{theorem7, setOf, setOf-lt, setOf-even, setOf-orderOf, backward}
 use Rattle.orders.specs.Same.{alike}
-use Rattle.orders.specs.Allowed.{stopsBelow, someSet, setGiving, setCount, isAllowed, forksOf, judgeStops}
+use Rattle.orders.specs.Allowed.{stopsBelow, someSet, setGiving, setCount, isAllowed, forksOf, judgeOrder}
 use Rattle.base.proofs.Bools.{both}
 use Rattle.orders.proofs.Same.{alike-same, same-alike}
 
@@ -108,6 +110,10 @@ module _ (k : ℕ) (o : List ℕ) where
 pub isAllowed-iff : (k : ℕ) (o : List ℕ) → (isAllowed k o ≡ true) ↔ Allowed k o
 isAllowed-iff k o = (λ h. (forksOf k o, forksOf-gives k o h .given), λ a. gives-allowed k o (setOf k o) (allowed-gives k o a))
 
+-- the order of a set is allowed
+pub orderOf-allowed : (k F : ℕ) → isAllowed k (orderOf k F) ≡ true
+orderOf-allowed k F = isAllowed-iff k (orderOf k F) .1 (F, refl)
+
 -- the set that gives an allowed order is the one that Theorem 7 reads off it
 pub forksOf-setOf : (k : ℕ) (o : List ℕ) → isAllowed k o ≡ true → forksOf k o ≡ setOf k o
 forksOf-setOf k o h = gives-one k o _ _ (forksOf-gives k o h) (allowed-gives k o (isAllowed-iff k o .0 h))
@@ -143,30 +149,37 @@ module _ (k : ℕ) (o : List ℕ) where
           absurd (true≢false (sym (mayFollow-iff p _ _ .1 (m .near p a b)) ∙ h))
       go false e = e
 
--- ---- the number of an order
+-- ---- the judgement of an order
 
 module _ (k : ℕ) (o : List ℕ) where
   -- 9 where a stop is not below n
-  pub judge-stop : stopsBelow (2 ^ k) o ≡ false → judgeStops k o ≡ noSuchStop
-  unfolding judgeStops
+  pub judge-stop : stopsBelow (2 ^ k) o ≡ false → judgeOrder k o ≡ refuses noSuchStop
+  unfolding judgeOrder
   judge-stop h = rw h
 
   -- 10 where all are, and no set gives the order
-  pub judge-order : stopsBelow (2 ^ k) o ≡ true → isAllowed k o ≡ false → judgeStops k o ≡ notAllowed
-  unfolding judgeStops
+  pub judge-order : stopsBelow (2 ^ k) o ≡ true → isAllowed k o ≡ false → judgeOrder k o ≡ refuses notAllowed
+  unfolding judgeOrder
   judge-order h a = rw (h, a)
 
-  -- 0 otherwise
-  pub judge-good : stopsBelow (2 ^ k) o ≡ true → isAllowed k o ≡ true → judgeStops k o ≡ accepted
-  unfolding judgeStops
+  -- itself otherwise
+  pub judge-good : stopsBelow (2 ^ k) o ≡ true → isAllowed k o ≡ true → judgeOrder k o ≡ gives o
+  unfolding judgeOrder
   judge-good h a = rw (h, a)
 
   -- and only then
-  pub judged-good : judgeStops k o ≡ accepted → (stopsBelow (2 ^ k) o ≡ true) × (isAllowed k o ≡ true)
-  unfolding judgeStops
-  judged-good h = go (stopsBelow (2 ^ k) o) (isAllowed k o) h
-    where
-      go : (s a : Bool) → cond s (cond a accepted notAllowed) noSuchStop ≡ accepted → (s ≡ true) × (a ≡ true)
-      go true true e = (refl, refl)
-      go true false e = absurd (omega arith)
-      go false a e = absurd (omega arith)
+  pub judged-good : number (judgeOrder k o) ≡ 0 → (stopsBelow (2 ^ k) o ≡ true) × (isAllowed k o ≡ true)
+  unfolding judgeOrder
+  judged-good h =
+      let below = passed (stopsBelow (2 ^ k) o) noSuchStop _ (omega arith) h in
+      (below .holds, passed (isAllowed k o) notAllowed _ (omega arith) (below .goes-on) .holds)
+
+  -- an allowed order has n stops
+  pub allowed-long : isAllowed k o ≡ true → length o ≡ 2 ^ k
+  allowed-long h = theorem7 k o .0 (isAllowed-iff k o .0 h) .long
+
+  -- that are below n
+  pub allowed-below : isAllowed k o ≡ true → stopsBelow (2 ^ k) o ≡ true
+  allowed-below h =
+      let m : Meets k o = theorem7 k o .0 (isAllowed-iff k o .0 h) in
+      below-all (2 ^ k) o (λ p b. m .small p (omega (arith, m .long)))

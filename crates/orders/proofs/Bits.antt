@@ -13,8 +13,10 @@ use lib.ListN.{length, getD, set, take, drop, length-set}
 use lib.Pow.{pow-pos, pow-add, pow-mono, pow-lt, shr-shr}
 use lib.Seq.{getD-set-same, getD-set-other, drop-set-lt}
 use borrow.Author.Tests.{lt-ltb, ltb-true, eq-eqb, eqb-true}
-use Rattle.base.specs.Refusal.{accepted, wrongForks}
-use Rattle.records.specs.Field.{number, bytesOf, areBytes}
+use Rattle.base.specs.Refusal.{wrongForks}
+use Rattle.base.specs.Outcome.{gives, refuses, number}
+use Rattle.base.proofs.Outcome.{passed}
+use Rattle.records.specs.Field.{numberOf, bytesOf, areBytes}
 use Rattle.records.proofs.FieldLaws.{number-nil, number-cons, number-bytesOf, bytesOf-number, areBytes-nil, areBytes-cons, areBytes-head, areBytes-tail, areBytes-bytesOf, number-lt}
 use Rattle.tree.specs.Fork.{bit}
 use Rattle.tree.proofs.Bit.{bit-zero, bit-ext}
@@ -101,25 +103,25 @@ pub bit-number : (s : List ℕ) → areBytes s ≡ true → (v : ℕ) → bit (s
 bit-number [] h v = rw number-nil (bit-none v ∙ sym (bit-none (v % 8)))
 bit-number (b ∷ s) h v = go (bit-number s (areBytes-tail b s h)) (decLt v 8)
   where
-    go : ((w : ℕ) → bit (setOfBits s) w ≡ stringBit s w) → Dec (v < 8) → bit (number (b ∷ s)) v ≡ stringBit (b ∷ s) v
+    go : ((w : ℕ) → bit (setOfBits s) w ≡ stringBit s w) → Dec (v < 8) → bit (numberOf (b ∷ s)) v ≡ stringBit (b ∷ s) v
     go ih (yes l) =
         let i : v / 8 ≡ 0 = omega arith in
         let j : v % 8 ≡ v = omega arith in
-        rw (number-cons b s, i, j) (bit-low b (number s) v l)
+        rw (number-cons b s, i, j) (bit-low b (numberOf s) v l)
     go ih (no l) =
         let w : ℕ = v - 8 in
         let e : v ≡ 8 + w = omega arith in
         let i : v / 8 ≡ suc (w / 8) = omega arith in
         let j : v % 8 ≡ w % 8 = omega arith in
         rw (number-cons b s, i, j)
-        (ap (bit (b + 256 * number s)) e ∙ bit-high b (number s) w (areBytes-head b s h) ∙ ih w)
+        (ap (bit (b + 256 * numberOf s)) e ∙ bit-high b (numberOf s) w (areBytes-head b s h) ∙ ih w)
 
 -- a string is decided by its bits
 pub string-ext : (m : ℕ) (s : List ℕ) (F : ℕ) → areBytes s ≡ true → length s ≡ m → F < 256 ^ m
     → ((v : ℕ) → v < 8 * m → stringBit s v ≡ bit F v) → s ≡ bytesOf m F
 string-ext m s F bytes long small same =
-    let b : number s < 2 ^ (8 * m) = rw (← pow-bytes m, ← long) (number-lt s bytes) in
-    let e : number s ≡ F = bit-ext (8 * m) (number s) F b (rw (← pow-bytes m) small) (λ v c. bit-number s bytes v ∙ same v c) in
+    let b : numberOf s < 2 ^ (8 * m) = rw (← pow-bytes m, ← long) (number-lt s bytes) in
+    let e : numberOf s ≡ F = bit-ext (8 * m) (numberOf s) F b (rw (← pow-bytes m) small) (λ v c. bit-number s bytes v ∙ same v c) in
     sym (bytesOf-number s bytes) ∙ ap₂ bytesOf long e
 
 -- a set of forks fits the string
@@ -230,14 +232,18 @@ module _ (k F : ℕ) where
           small : F < 2 ^ 2 ^ k
           small = rw one-mul at (div-lt-iff-lt-mul {x = F} {y = 1} (pow-pos (2 ^ k)) .0 (omega (arith, none)))
 
--- the number of a set that is judged
-pub judge-forks : (k F : ℕ) → onlyForks k F ≡ true → judgeForks k F ≡ accepted
-unfolding judgeForks
-judge-forks k F h = rw h
+  -- a set that is judged: itself, or 12
+  pub judge-forks : onlyForks k F ≡ true → judgeForks k F ≡ gives F
+  unfolding judgeForks
+  judge-forks h = rw h
 
-pub judge-outside : (k F : ℕ) → onlyForks k F ≡ false → judgeForks k F ≡ wrongForks
-unfolding judgeForks
-judge-outside k F h = rw h
+  pub judge-outside : onlyForks k F ≡ false → judgeForks k F ≡ refuses wrongForks
+  unfolding judgeForks
+  judge-outside h = rw h
+
+  pub judged-forks : number (judgeForks k F) ≡ 0 → onlyForks k F ≡ true
+  unfolding judgeForks
+  judged-forks e = passed (onlyForks k F) wrongForks (gives F) (omega arith) e .holds
 
 -- ---- one bit set
 

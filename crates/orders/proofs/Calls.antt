@@ -1,276 +1,207 @@
--- Laws of the calls' outcomes: which test decides, and what each answer promises.
+-- Laws of the calls: what each promises after a refusal and after success, and what a caller learns from its answer.
 use mathlib.Core.Path.{_≡_, refl, sym, ap, _∙_}
-use mathlib.Core.Bool.{Bool, true, false, cond, _&&_}
-use mathlib.Core.List.{List, _++_}
-use Prim.Native.Nat.{ℕ, zero, suc, _*_, _^_, _≤_, _<_}
+use mathlib.Core.Bool.{true, false}
+use mathlib.Core.List.{List}
+use Prim.Native.Nat.{ℕ, _*_, _^_, _≤_, _<_}
 use native.Mathlib.Omega.{arith}
-use lib.Dec.{leb}
-use lib.ListN.{length, drop}
-use borrow.Author.Tests.{le-leb, lt-leb, leb-true, eq-eqb, eqb-true, ne-eqb}
-use Rattle.base.specs.Refusal.{accepted, wrongK, wrongSize}
-use Rattle.base.specs.Size.{maxK}
-use Rattle.orders.specs.declared.BitsMade.the-variants as bits-answer
-use Rattle.orders.specs.declared.OrderMade.the-variants as order-answer
-use Rattle.orders.specs.declared.OrderTotal.{OrderTotal}
-use Rattle.orders.specs.declared.OrderTotal.the-variants as total-answer
+use lib.Dec.{leb, eqb}
+use lib.ListN.{length}
+use borrow.Author.Tests.{le-leb, lt-leb, leb-true}
+use Rattle.base.specs.Refusal.{wrongK, wrongSize, wrongForks}
+use Rattle.base.specs.Outcome.{Outcome, gives, refuses, giving, done, number, over}
+use Rattle.base.specs.Size.{maxK, stopCount}
+use Rattle.base.proofs.Size.{stopCount-pow}
+use Rattle.base.proofs.Outcome.{passed, refused, number-giving, refused-giving}
 use Rattle.tree.specs.Order.{orderOf}
-use Rattle.tree.proofs.Link.{length-orderOf}
-use Rattle.records.proofs.FieldLaws.{length-bytesOf}
-use Rattle.orders.specs.Allowed.{judgeStops, forksOf}
-use Rattle.orders.specs.Bits.{byteCount, bitString, judgeForks}
-use Rattle.orders.specs.Call.{inSequence, written, valueOf, orderIn, forksIn, orderFits, bitsFit, tableFits, judgeOrder, bitsNumber, bitsLeft, orderNumber, orderLeft, totalNumber, totalOf, totalGiven}
-use Rattle.base.proofs.Bools.{both}
-use Rattle.orders.specs.Answer.{numberOfBits, numberOfOrder, numberOfTotal, valueOfTotal, bitsAnswer, orderAnswer, totalAnswer, BitsPromise, OrderPromise, TotalPromise}
+use Rattle.tree.specs.Total.{entry, total}
+use Rattle.orders.specs.declared.BitsMade.{BitsMade}
+use Rattle.orders.specs.declared.BitsMade.the-variants as bits-answer
+use Rattle.orders.specs.declared.OrderMade.{OrderMade}
+use Rattle.orders.specs.declared.OrderMade.the-variants as order-answer
+use Rattle.orders.specs.declared.OrderTotal.the-variants as total-answer
+use Rattle.orders.specs.Allowed.{forksOf, judgeOrder}
+use Rattle.orders.specs.Bits.{byteCount, bitString, onlyForks, judgeForks}
+use Rattle.orders.specs.Lent.{orderIn, forksIn, orderFits, bitsFit, tableFits, lentOrder, JudgedOrder}
+use Rattle.orders.specs.ForkBits as bits
+use Rattle.orders.specs.OrderOfBits as order
+use Rattle.orders.specs.OrderTotal as sum
+use Rattle.orders.proofs.Bits.{judge-forks, judge-outside, judged-forks}
+use Rattle.orders.proofs.Lent.{lent-contents, lent-judged, lent-gives, lent-same}
+use Rattle.orders.proofs.Size.{byteCount-is}
 
--- ---- which test decides
+-- an answer without a value that says 'done' tells that nothing was refused
+done-number : {A : Type 0} (o : Outcome A) → gives tt ≡ done o → number o ≡ 0
+done-number o e = sym (number-giving (λ a. tt) o) ∙ sym (ap number e)
 
-module _ (k : ℕ) where
-  -- k first
-  pub refused-k : (lengths : Bool) (contents : ℕ) → maxK < k → inSequence k lengths contents ≡ wrongK
-  unfolding inSequence
-  refused-k lengths contents h = rw (lt-leb _ _ h)
+-- ---- fork bits of an order
 
-  -- then the lengths
-  pub refused-size : (lengths : Bool) (contents : ℕ) → k ≤ maxK → lengths ≡ false → inSequence k lengths contents ≡ wrongSize
-  unfolding inSequence
-  refused-size lengths contents h e = rw (le-leb _ _ h, e)
+module _ (k : ℕ) (order : List ℕ) (room : ℕ) where
+  -- the number, with the bytes of a string as code has them
+  pub bits-number : (count : ℕ) → count ≡ byteCount (stopCount k) → number (lentOrder k order (leb count room)) ≡ number (bits.forkBits k order room)
+  unfolding bits.forkBits
+  bits-number count e =
+      ap number (lent-same k order (leb count room) (bitsFit k room) (λ h. ap (λ (x : ℕ). leb x room) (e ∙ byteCount-is k h)))
+      ∙ sym (number-giving (λ o. bitString k (forksOf k o)) (lentOrder k order (bitsFit k room)))
 
-  -- then the contents
-  pub by-contents : (lengths : Bool) (contents : ℕ) → k ≤ maxK → lengths ≡ true → inSequence k lengths contents ≡ contents
-  unfolding inSequence
-  by-contents lengths contents h e = rw (le-leb _ _ h, e)
+  -- what an accepted order has
+  pub bits-judged : number (bits.forkBits k order room) ≡ 0 → JudgedOrder k order × (byteCount (2 ^ k) ≤ room)
+  unfolding bits.forkBits
+  bits-judged e =
+      let w = lent-judged k order (bitsFit k room) (sym (number-giving (λ o. bitString k (forksOf k o)) (lentOrder k order (bitsFit k room))) ∙ e) in
+      (w .0, leb-true _ _ (w .1))
 
--- where a call accepts, k, the lengths and the contents are good
-pub sequence-good : (k : ℕ) (lengths : Bool) (contents : ℕ) → inSequence k lengths contents ≡ accepted → (k ≤ maxK) × (lengths ≡ true) × (contents ≡ accepted)
-unfolding inSequence
-sequence-good k lengths contents e = go (leb k maxK) refl lengths e
-  where
-    go : (t : Bool) → leb k maxK ≡ t → (l : Bool) → cond t (cond l contents wrongSize) wrongK ≡ accepted → (k ≤ maxK) × (l ≡ true) × (contents ≡ accepted)
-    go true f true q = (leb-true _ _ f, refl, q)
-    go true f false q = absurd (omega arith)
-    go false f l q = absurd (omega arith)
+  -- and gives
+  pub bits-given : JudgedOrder k order → byteCount (2 ^ k) ≤ room → bits.forkBits k order room ≡ gives (bitString k (forksOf k (orderIn k order)))
+  unfolding bits.forkBits
+  bits-given j fits = rw (lent-gives k order (bitsFit k room) j (le-leb _ _ fits))
 
--- one of two lengths does not suffice
-pub short-first : (a b : Bool) → a ≡ false → (a && b) ≡ false
-short-first a b e = rw e
+  -- with long enough buffers a refusal is the order's
+  pub bits-order : (n : ℕ) → k ≤ maxK → 2 ^ k ≤ length order → byteCount (2 ^ k) ≤ room → bits.forkBits k order room ≡ refuses n → judgeOrder k (orderIn k order) ≡ refuses n
+  unfolding bits.forkBits
+  bits-order n h long fits e =
+      sym (lent-contents k order (bitsFit k room) h long (le-leb _ _ fits))
+      ∙ refused-giving (λ o. bitString k (forksOf k o)) (lentOrder k order (bitsFit k room)) n e
 
-pub short-second : (a b : Bool) → b ≡ false → (a && b) ≡ false
-short-second true b e = e
-short-second false b e = refl
-
--- where the second does, the first decides
-pub first-decides : (a b : Bool) → b ≡ true → (a && b) ≡ a
-first-decides true b e = e
-first-decides false b e = refl
-
--- the number of a lent order
-module _ (k : ℕ) (order : List ℕ) where
-  pub judge-k : maxK < k → judgeOrder k order ≡ wrongK
-  unfolding judgeOrder
-  judge-k h = refused-k k _ _ h
-
-  pub judge-size : k ≤ maxK → length order < 2 ^ k → judgeOrder k order ≡ wrongSize
-  unfolding judgeOrder
-  judge-size h s = refused-size k _ _ h (lt-leb _ _ s)
-
-  pub judge-contents : k ≤ maxK → 2 ^ k ≤ length order → judgeOrder k order ≡ judgeStops k (orderIn k order)
-  unfolding judgeOrder
-  judge-contents h s = by-contents k _ _ h (le-leb _ _ s)
-
--- the number of fork bits
-module _ (k : ℕ) (order bits : List ℕ) where
-  pub bits-k : maxK < k → bitsNumber k order bits ≡ wrongK
-  unfolding bitsNumber
-  bits-k h = refused-k k _ _ h
-
-  pub bits-size : k ≤ maxK → length bits < byteCount (2 ^ k) → bitsNumber k order bits ≡ wrongSize
-  unfolding bitsNumber
-  bits-size h s = refused-size k (orderFits k order && bitsFit k bits) _ h (short-second (orderFits k order) _ (lt-leb _ _ s))
-
-  -- with room for them it is the order's
-  pub bits-judged : byteCount (2 ^ k) ≤ length bits → bitsNumber k order bits ≡ judgeOrder k order
-  unfolding bitsNumber judgeOrder
-  bits-judged s = ap (λ t. inSequence k t (judgeStops k (orderIn k order))) (first-decides (orderFits k order) _ (le-leb _ _ s))
-
--- the number of an order of fork bits
-module _ (k : ℕ) (bits order : List ℕ) where
-  pub order-k : maxK < k → orderNumber k bits order ≡ wrongK
-  unfolding orderNumber
-  order-k h = refused-k k _ _ h
-
-  pub order-size-bits : k ≤ maxK → length bits < byteCount (2 ^ k) → orderNumber k bits order ≡ wrongSize
-  unfolding orderNumber
-  order-size-bits h s = refused-size k (bitsFit k bits && orderFits k order) _ h (short-first _ (orderFits k order) (lt-leb _ _ s))
-
-  pub order-size : k ≤ maxK → length order < 2 ^ k → orderNumber k bits order ≡ wrongSize
-  unfolding orderNumber
-  order-size h s = refused-size k (bitsFit k bits && orderFits k order) _ h (short-second (bitsFit k bits) _ (lt-leb _ _ s))
-
-  pub order-contents : k ≤ maxK → byteCount (2 ^ k) ≤ length bits → 2 ^ k ≤ length order → orderNumber k bits order ≡ judgeForks k (forksIn k bits)
-  unfolding orderNumber
-  order-contents h b s = by-contents k _ _ h (rw (le-leb _ _ b) (le-leb _ _ s))
-
--- the number of a total
-module _ (k : ℕ) (order table : List ℕ) where
-  pub total-k : maxK < k → totalNumber k order table ≡ wrongK
-  unfolding totalNumber
-  total-k h = refused-k k _ _ h
-
-  pub total-size : k ≤ maxK → (length table ≡ 2 ^ k * 2 ^ k → ⊥) → totalNumber k order table ≡ wrongSize
-  unfolding totalNumber
-  total-size h s = refused-size k (orderFits k order && tableFits k table) _ h (short-second (orderFits k order) _ (ne-eqb _ _ s))
-
-  -- with a table of n² entries it is the order's
-  pub total-judged : length table ≡ 2 ^ k * 2 ^ k → totalNumber k order table ≡ judgeOrder k order
-  unfolding totalNumber judgeOrder
-  total-judged s = ap (λ t. inSequence k t (judgeStops k (orderIn k order))) (first-decides (orderFits k order) _ (eq-eqb _ _ s))
-
--- an order that is judged 0 is long enough and allowed
-pub judged-order : (k : ℕ) (order : List ℕ) → k ≤ maxK → judgeOrder k order ≡ accepted → (2 ^ k ≤ length order) × (judgeStops k (orderIn k order) ≡ accepted)
-unfolding judgeOrder inSequence
-judged-order k order h e = go (leb (2 ^ k) (length order)) refl (rw (le-leb _ _ h) at e)
-  where
-    go : (t : Bool) → leb (2 ^ k) (length order) ≡ t → cond t (judgeStops k (orderIn k order)) wrongSize ≡ accepted
-        → (2 ^ k ≤ length order) × (judgeStops k (orderIn k order) ≡ accepted)
-    go true f q = (leb-true _ _ f, q)
-    go false f q = absurd (omega arith)
-
--- an order and a table that are judged 0
-pub total-accepted : (k : ℕ) (order table : List ℕ) → totalNumber k order table ≡ accepted
-    → (k ≤ maxK) × (2 ^ k ≤ length order) × (length table ≡ 2 ^ k * 2 ^ k) × (judgeStops k (orderIn k order) ≡ accepted)
-unfolding totalNumber
-total-accepted k order table e =
-    let g = sequence-good k (orderFits k order && tableFits k table) _ e in
-    let f = both (orderFits k order) (tableFits k table) (g .1) in
-    (g .0, leb-true _ _ (f .0), eqb-true _ _ (f .1), g .2)
-
--- ---- what a buffer holds afterwards
-
-pub written-good : (number : ℕ) (result lent : List ℕ) → number ≡ accepted → written number result lent ≡ result ++ drop (length result) lent
-unfolding written
-written-good number result lent e = rw (eq-eqb _ _ e)
-
-pub written-bad : (number : ℕ) (result lent : List ℕ) → (number ≡ accepted → ⊥) → written number result lent ≡ lent
-unfolding written
-written-bad number result lent e = rw (ne-eqb _ _ e)
-
-pub value-good : (number value : ℕ) → number ≡ accepted → valueOf number value ≡ value
-unfolding valueOf
-value-good number value e = rw (eq-eqb _ _ e)
-
-pub value-bad : (number value : ℕ) → (number ≡ accepted → ⊥) → valueOf number value ≡ 0
-unfolding valueOf
-value-bad number value e = rw (ne-eqb _ _ e)
-
--- what the two writing calls leave where they accept
-pub bits-left-good : (k : ℕ) (order bits : List ℕ) → bitsNumber k order bits ≡ accepted
-    → bitsLeft k order bits ≡ bitString k (forksOf k (orderIn k order)) ++ drop (byteCount (2 ^ k)) bits
-unfolding bitsLeft
-bits-left-good k order bits e = written-good _ (bitString k (forksOf k (orderIn k order))) bits e ∙ rw length-bytesOf
-
-pub order-left-good : (k : ℕ) (bits order : List ℕ) → orderNumber k bits order ≡ accepted
-    → orderLeft k bits order ≡ orderOf k (forksIn k bits) ++ drop (2 ^ k) order
-unfolding orderLeft
-order-left-good k bits order e = written-good _ (orderOf k (forksIn k bits)) order e ∙ rw length-orderOf
-
--- fork bits of an order that was judged
-pub bits-ready : (k : ℕ) (order bits : List ℕ) → k ≤ maxK → 2 ^ k ≤ length order → judgeStops k (orderIn k order) ≡ accepted → byteCount (2 ^ k) ≤ length bits
-    → bitsNumber k order bits ≡ accepted
-bits-ready k order bits h long good fits = bits-judged k order bits fits ∙ judge-contents k order h long ∙ good
-
--- ---- answers
-
--- the answer of a refusal's number
-bits-refusal : (x : ℕ) → (x ≡ 0 → ⊥) → bitsAnswer x ≡ bits-answer.Refused x
-unfolding bitsAnswer
-bits-refusal zero h = absurd (h refl)
-bits-refusal (suc x) h = refl
-
-order-refusal : (x : ℕ) → (x ≡ 0 → ⊥) → orderAnswer x ≡ order-answer.Refused x
-unfolding orderAnswer
-order-refusal zero h = absurd (h refl)
-order-refusal (suc x) h = refl
-
-total-refusal : (x value : ℕ) → (x ≡ 0 → ⊥) → totalAnswer x value ≡ total-answer.Refused x
-unfolding totalAnswer
-total-refusal zero value h = absurd (h refl)
-total-refusal (suc x) value h = refl
-
-module _ (k : ℕ) (order bits : List ℕ) where
+module _ (k : ℕ) (order before : List ℕ) where
   -- fork bits that are refused
-  pub bits-refused : (x : ℕ) → (x ≡ 0 → ⊥) → bitsNumber k order bits ≡ x → BitsPromise k order bits (bits-answer.Refused x) bits
-  unfolding numberOfBits bitsLeft
-  bits-refused x h e = record {
-    answer = rw e (sym (bits-refusal x h));
-    number = sym e;
-    left = sym (written-bad _ _ bits (λ z. h (sym e ∙ z)));
-  }
+  pub bits-refused : (r : ℕ) → r ≡ number (bits.forkBits k order (length before)) → (r ≡ 0 → ⊥) → bits.BitsAreMade k order before before (bits-answer.Refused r)
+  unfolding bits.said
+  bits-refused r e f = let o = refused (bits.forkBits k order (length before)) r e f in record { said = rw o; left = rw o }
 
   -- fork bits that are made
-  pub bits-made : (after : List ℕ) → bitsNumber k order bits ≡ 0 → after ≡ bitString k (forksOf k (orderIn k order)) ++ drop (byteCount (2 ^ k)) bits
-      → BitsPromise k order bits bits-answer.Made after
-  unfolding numberOfBits bitsAnswer
-  bits-made after e a = record {
-    answer = rw e;
-    number = sym e;
-    left = a ∙ sym (bits-left-good k order bits e);
-  }
+  pub bits-made : (afterwards : List ℕ) → number (bits.forkBits k order (length before)) ≡ 0 → afterwards ≡ over (bitString k (forksOf k (orderIn k order))) before
+      → bits.BitsAreMade k order before afterwards bits-answer.Made
+  unfolding bits.said
+  bits-made afterwards e w =
+      let j = bits-judged k order (length before) e in
+      let o = bits-given k order (length before) (j .0) (j .1) in
+      record { said = rw o; left = rw o w }
 
-module _ (k : ℕ) (bits order : List ℕ) where
+  -- for callers: what an answer tells, and when the bits are made
+  module _ (afterwards : List ℕ) where
+    pub bits-told : (r : BitsMade) (n : ℕ) → bits.BitsAreMade k order before afterwards r → r ≡ bits-answer.Refused n
+        → (bits.forkBits k order (length before) ≡ refuses n) × (n ≡ 0 → ⊥)
+    unfolding bits.said
+    bits-told r n p e = (is, λ z. none (bits-judged k order (length before) (ap number is ∙ z)))
+      where
+        is : bits.forkBits k order (length before) ≡ refuses n
+        is = refused-giving (λ s. tt) (bits.forkBits k order (length before)) n (sym (p .said) ∙ ap bits.said e)
+
+        none : JudgedOrder k order × (byteCount (2 ^ k) ≤ length before) → ⊥
+        none j =
+            let g = bits-given k order (length before) (j .0) (j .1) in
+            let z : _≡_ {A = ℕ} 0 1 = cc in
+            omega arith
+
+    pub when-bits : (r : BitsMade) → bits.BitsAreMade k order before afterwards r → r ≡ bits-answer.Made
+        → JudgedOrder k order × (afterwards ≡ over (bitString k (forksOf k (orderIn k order))) before)
+    unfolding bits.said
+    when-bits r p e =
+        let j = bits-judged k order (length before) (done-number (bits.forkBits k order (length before)) (sym (ap bits.said e) ∙ p .said)) in
+        (j .0, p .left ∙ rw (bits-given k order (length before) (j .0) (j .1)))
+
+    pub bits-when : (r : BitsMade) → JudgedOrder k order → byteCount (2 ^ k) ≤ length before → bits.BitsAreMade k order before afterwards r
+        → (r ≡ bits-answer.Made) × (afterwards ≡ over (bitString k (forksOf k (orderIn k order))) before)
+    unfolding bits.said
+    bits-when r j fits p =
+        let o = bits-given k order (length before) j fits in
+        (only r (p .said ∙ rw o), p .left ∙ rw o)
+      where
+        only : (r : BitsMade) → bits.said r ≡ gives tt → r ≡ bits-answer.Made
+        only bits-answer.Made e = refl
+        only (bits-answer.Refused n) e = let z : _≡_ {A = ℕ} 0 1 = cc in absurd (omega arith)
+
+-- ---- the order of fork bits
+
+module _ (k : ℕ) (string : List ℕ) (room : ℕ) where
+  -- which test decides
+  pub order-k : maxK < k → order.orderOfBits k string room ≡ refuses wrongK
+  unfolding order.orderOfBits
+  order-k h = rw (lt-leb _ _ h)
+
+  pub order-string : k ≤ maxK → length string < byteCount (2 ^ k) → order.orderOfBits k string room ≡ refuses wrongSize
+  unfolding order.orderOfBits
+  order-string h s = rw (le-leb _ _ h, lt-leb _ _ s)
+
+  pub order-room : k ≤ maxK → byteCount (2 ^ k) ≤ length string → room < 2 ^ k → order.orderOfBits k string room ≡ refuses wrongSize
+  unfolding order.orderOfBits
+  order-room h s r = rw (le-leb _ _ h, le-leb _ _ s, lt-leb _ _ r)
+
+  -- what is known of an accepted string
+  pub record JudgedForks : Type 0 where
+    pub small : k ≤ maxK
+    pub long : byteCount (2 ^ k) ≤ length string
+    pub places : 2 ^ k ≤ room
+    pub only : onlyForks k (forksIn k string) ≡ true
+
+  pub order-outside : k ≤ maxK → byteCount (2 ^ k) ≤ length string → 2 ^ k ≤ room → onlyForks k (forksIn k string) ≡ false → order.orderOfBits k string room ≡ refuses wrongForks
+  unfolding order.orderOfBits
+  order-outside h s r f = rw (le-leb _ _ h, le-leb _ _ s, le-leb _ _ r, judge-outside k (forksIn k string) f)
+
+  pub order-given : JudgedForks → order.orderOfBits k string room ≡ gives (orderOf k (forksIn k string))
+  unfolding order.orderOfBits
+  order-given j = rw (le-leb _ _ (j .small), le-leb _ _ (j .long), le-leb _ _ (j .places), judge-forks k (forksIn k string) (j .only))
+
+  pub order-judged : number (order.orderOfBits k string room) ≡ 0 → JudgedForks
+  unfolding order.orderOfBits
+  order-judged e =
+      let small = passed (leb k maxK) wrongK _ (omega arith) e in
+      let long = passed (bitsFit k (length string)) wrongSize _ (omega arith) (small .goes-on) in
+      let places = passed (orderFits k room) wrongSize (giving (orderOf k) (judgeForks k (forksIn k string))) (omega arith) (long .goes-on) in
+      record {
+        small = leb-true _ _ (small .holds);
+        long = leb-true _ _ (long .holds);
+        places = leb-true _ _ (places .holds);
+        only = judged-forks k (forksIn k string) (sym (number-giving (orderOf k) (judgeForks k (forksIn k string))) ∙ places .goes-on);
+      }
+
+module _ (k : ℕ) (string before : List ℕ) where
   -- an order that is refused
-  pub order-refused : (x : ℕ) → (x ≡ 0 → ⊥) → orderNumber k bits order ≡ x → OrderPromise k bits order (order-answer.Refused x) order
-  unfolding numberOfOrder orderLeft
-  order-refused x h e = record {
-    answer = rw e (sym (order-refusal x h));
-    number = sym e;
-    left = sym (written-bad _ _ order (λ z. h (sym e ∙ z)));
-  }
+  pub order-refused : (r : ℕ) → r ≡ number (order.orderOfBits k string (length before)) → (r ≡ 0 → ⊥) → order.OrderIsMade k string before before (order-answer.Refused r)
+  unfolding order.said
+  order-refused r e f = let o = refused (order.orderOfBits k string (length before)) r e f in record { said = rw o; left = rw o }
 
   -- an order that is made
-  pub order-made : (after : List ℕ) → orderNumber k bits order ≡ 0 → after ≡ orderOf k (forksIn k bits) ++ drop (2 ^ k) order
-      → OrderPromise k bits order order-answer.Made after
-  unfolding numberOfOrder orderAnswer
-  order-made after e a = record {
-    answer = rw e;
-    number = sym e;
-    left = a ∙ sym (order-left-good k bits order e);
-  }
+  pub order-made : (afterwards : List ℕ) → JudgedForks k string (length before) → afterwards ≡ over (orderOf k (forksIn k string)) before
+      → order.OrderIsMade k string before afterwards order-answer.Made
+  unfolding order.said
+  order-made afterwards j w = let o = order-given k string (length before) j in record { said = rw o; left = rw o w }
+
+  -- for callers: what an answer tells, and when the order is made
+  module _ (afterwards : List ℕ) where
+    pub when-order : (r : OrderMade) → order.OrderIsMade k string before afterwards r → r ≡ order-answer.Made
+        → JudgedForks k string (length before) × (afterwards ≡ over (orderOf k (forksIn k string)) before)
+    unfolding order.said
+    when-order r p e =
+        let j = order-judged k string (length before) (done-number (order.orderOfBits k string (length before)) (sym (ap order.said e) ∙ p .said)) in
+        (j, p .left ∙ rw (order-given k string (length before) j))
+
+    pub order-when : (r : OrderMade) → JudgedForks k string (length before) → order.OrderIsMade k string before afterwards r
+        → (r ≡ order-answer.Made) × (afterwards ≡ over (orderOf k (forksIn k string)) before)
+    unfolding order.said
+    order-when r j p =
+        let o = order-given k string (length before) j in
+        (only r (p .said ∙ rw o), p .left ∙ rw o)
+      where
+        only : (r : OrderMade) → order.said r ≡ gives tt → r ≡ order-answer.Made
+        only order-answer.Made e = refl
+        only (order-answer.Refused n) e = let z : _≡_ {A = ℕ} 0 1 = cc in absurd (omega arith)
+
+-- ---- the total of an order
 
 module _ (k : ℕ) (order table : List ℕ) where
-  -- a total that is refused
-  pub total-refused : (x : ℕ) → (x ≡ 0 → ⊥) → totalNumber k order table ≡ x → TotalPromise k order table (total-answer.Refused x)
-  unfolding numberOfTotal valueOfTotal totalGiven
-  total-refused x h e = record {
-    answer = rw e (sym (total-refusal x _ h));
-    number = sym e;
-    value = sym (value-bad _ _ (λ z. h (sym e ∙ z)));
-  }
+  -- the test of the lengths, with n as code has it
+  pub total-lent : (n : ℕ) → n ≡ stopCount k → lentOrder k order (eqb (length table) (n * n)) ≡ lentOrder k order (tableFits k (length table))
+  total-lent n e =
+      lent-same k order (eqb (length table) (n * n)) (tableFits k (length table)) (λ h. ap (λ (x : ℕ). eqb (length table) (x * x)) (e ∙ stopCount-pow k h))
 
-  -- a total that is given
-  pub total-given : (t : ℕ) → totalNumber k order table ≡ 0 → t ≡ totalOf k order table → TotalPromise k order table (total-answer.Total t)
-  unfolding numberOfTotal valueOfTotal totalAnswer totalGiven
-  total-given t e a = record { answer = rw (e, a); number = sym e; value = a ∙ sym (value-good _ _ e) }
+  pub total-refused : (r : ℕ) → r ≡ number (lentOrder k order (tableFits k (length table))) → (r ≡ 0 → ⊥) → sum.said (total-answer.Refused r) ≡ sum.orderTotal k order table
+  unfolding sum.said sum.orderTotal
+  total-refused r e f = rw (refused (lentOrder k order (tableFits k (length table))) r e f)
 
--- ---- what a caller learns from an answer
-
-module _ (k : ℕ) (order table : List ℕ) (r : OrderTotal) (promise : TotalPromise k order table r) where
-  -- a refusal has the call's number, which is not 0
-  pub total-refused-is : (x : ℕ) → r ≡ total-answer.Refused x → (totalNumber k order table ≡ x) × (x ≡ 0 → ⊥)
-  unfolding numberOfTotal totalAnswer
-  total-refused-is x e = (number, apart)
-    where
-      number : totalNumber k order table ≡ x
-      number = sym (promise .number) ∙ ap numberOfTotal e
-
-      apart : x ≡ 0 → ⊥
-      apart z =
-          let a : r ≡ total-answer.Total (totalOf k order table) = promise .answer ∙ ap (λ n. totalAnswer n (totalOf k order table)) (number ∙ z) in
-          let q : _≡_ {A = ℕ} 0 1 = cc in
-          omega arith
-
-  -- a total is the order's
-  pub total-given-is : (x : ℕ) → r ≡ total-answer.Total x → (totalNumber k order table ≡ accepted) × (x ≡ totalOf k order table)
-  unfolding numberOfTotal valueOfTotal totalGiven
-  total-given-is x e =
-      let number : totalNumber k order table ≡ accepted = sym (promise .number) ∙ ap numberOfTotal e in
-      (number, sym (ap valueOfTotal e) ∙ promise .value ∙ value-good _ _ number)
+  pub total-given : (t : ℕ) → number (lentOrder k order (tableFits k (length table))) ≡ 0 → t ≡ total (entry (2 ^ k) table) (orderIn k order)
+      → sum.said (total-answer.Total t) ≡ sum.orderTotal k order table
+  unfolding sum.said sum.orderTotal
+  total-given t e a =
+      let j = lent-judged k order (tableFits k (length table)) e in
+      rw (lent-gives k order (tableFits k (length table)) (j .0) (j .1)) (ap gives a)

@@ -3,7 +3,8 @@ use mathlib.Core.Bool.{Bool, true, false, cond, _&&_, _||_}
 use mathlib.Core.List.{List, [], _∷_}
 use Prim.Native.Nat.{ℕ, zero, suc, _*_, _-_, _^_}
 use lib.Dec.{ltb}
-use Rattle.base.specs.Refusal.{accepted, noSuchStop, notAllowed}
+use Rattle.base.specs.Refusal.{noSuchStop, notAllowed}
+use Rattle.base.specs.Outcome.{Outcome, gives, need}
 use Rattle.tree.specs.Order.{orderOf}
 use Rattle.orders.specs.Same.{alike}
 
@@ -34,6 +35,6 @@ isAllowed k o = someSet k o (setCount k)
 unfoldable pub forksOf : ℕ → List ℕ → ℕ
 forksOf k o = setGiving k o (setCount k)
 
--- the number of an order of n stops that is judged: 'a stop number n or more in an order' is 9, then 'an order not allowed' 10
-unfoldable pub judgeStops : ℕ → List ℕ → ℕ
-judgeStops k o = cond (stopsBelow (2 ^ k) o) (cond (isAllowed k o) accepted notAllowed) noSuchStop
+-- an order of n stops, judged: 'a stop number n or more in an order' is 9, then 'an order not allowed' 10
+unfoldable pub judgeOrder : ℕ → List ℕ → Outcome (List ℕ)
+judgeOrder k o = need (stopsBelow (2 ^ k) o) noSuchStop (need (isAllowed k o) notAllowed (gives o))

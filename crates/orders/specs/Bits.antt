@@ -6,8 +6,9 @@ use Prim.Native.Nat.{ℕ, _+_, _/_, _%_, _^_}
 use lib.Bits.{bitOr}
 use lib.Dec.{eqb, ltb}
 use lib.ListN.{getD, set}
-use Rattle.base.specs.Refusal.{accepted, wrongForks}
-use Rattle.records.specs.Field.{number, bytesOf}
+use Rattle.base.specs.Refusal.{wrongForks}
+use Rattle.base.specs.Outcome.{Outcome, gives, need}
+use Rattle.records.specs.Field.{numberOf, bytesOf}
 use Rattle.tree.specs.Fork.{bit}
 use Rattle.tree.specs.Neighbour.{lowestFork, forkState}
 
@@ -21,7 +22,7 @@ bitString k F = bytesOf (byteCount (2 ^ k)) F
 
 -- the set of forks that a string says
 abbrev pub setOfBits : List ℕ → ℕ
-setOfBits s = number s
+setOfBits s = numberOf s
 
 -- bit v of a string: 'byte v/8, low bit first'
 abbrev pub stringBit : List ℕ → ℕ → ℕ
@@ -31,9 +32,9 @@ stringBit s v = bit (getD s (v / 8) 0) (v % 8)
 unfoldable pub onlyForks : ℕ → ℕ → Bool
 onlyForks k F = eqb (F % 2) 0 && ltb F (2 ^ 2 ^ k)
 
--- the number of a set that is judged: 'a fork bit outside 1 to n−1 set' is 12
-unfoldable pub judgeForks : ℕ → ℕ → ℕ
-judgeForks k F = cond (onlyForks k F) accepted wrongForks
+-- a set of forks, judged: 'a fork bit outside 1 to n−1 set' is 12
+unfoldable pub judgeForks : ℕ → ℕ → Outcome ℕ
+judgeForks k F = need (onlyForks k F) wrongForks (gives F)
 
 -- the string with bit v set
 unfoldable pub raised : List ℕ → ℕ → List ℕ

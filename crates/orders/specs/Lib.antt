@@ -1,6 +1,8 @@
--- Orders and fork bits as the calls have them: which order is refused by what number, and what each call gives.
+-- Orders and fork bits: which order is allowed, which set of forks gives it, what a fork string says, and what each call comes to.
 pub mod Same
 pub mod Allowed
 pub mod Bits
-pub mod Call
-pub mod Answer
+pub mod Lent
+pub mod ForkBits
+pub mod OrderOfBits
+pub mod OrderTotal

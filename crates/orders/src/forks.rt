@@ -1,12 +1,20 @@
 // Fork strings: bit v of byte v/8, low bit first, is fork v.
+use crate::byte_count;
+use base::MAX_K;
+use base::WRONG_FORKS;
+use base::WRONG_K;
+use base::WRONG_SIZE;
 use base::stop_count;
 ghost use mathlib.Core.Path.{_≡_};
 ghost use mathlib.Core.List.{_++_};
 ghost use Prim.Native.Nat.{_≤_, _<_, _/_, _^_};
-ghost use lib.ListN.{length, take, drop, replicate};
+ghost use lib.ListN.{length, drop, replicate};
 ghost use Rattle.base.specs.Size.{maxK};
-ghost use Rattle.orders.specs.Allowed.{judgeStops, forksOf};
-ghost use Rattle.orders.specs.Bits.{byteCount, bitString, setOfBits, onlyForks, raised, marked};
+ghost use Rattle.base.specs.Outcome.{number, over};
+ghost use Rattle.orders.specs.Allowed.{forksOf};
+ghost use Rattle.orders.specs.Bits.{byteCount, bitString, onlyForks, raised, marked};
+ghost use Rattle.orders.specs.Lent.{JudgedOrder, orderIn, forksIn};
+ghost use Rattle.orders.specs.OrderOfBits.{orderOfBits};
 
 // Sets bit v of a string.
 fn raise(bits: &mut [u8], v: usize)
@@ -44,8 +52,8 @@ fn clear(count: usize, bits: &mut [u8])
 
 // Writes the fork bits of an allowed order.
 pub fn write_bits(k: u16, order: &[u16], bits: &mut [u8])
-    requires { ⌜ (k ≤ maxK) × (2 ^ k ≤ length (now order)) × (judgeStops k (take (2 ^ k) (now order)) ≡ 0) × (byteCount (2 ^ k) ≤ length (now bits)) ⌝ }
-    ensures { λ r. ⌜ now (bits .exit) ≡ bitString k (forksOf k (take (2 ^ k) (now (order .entry)))) ++ drop (byteCount (2 ^ k)) (now (bits .entry)) ⌝ }
+    requires { ⌜ JudgedOrder k (now order) × (byteCount (2 ^ k) ≤ length (now bits)) ⌝ }
+    ensures { λ r. ⌜ now (bits .exit) ≡ over (bitString k (forksOf k (orderIn k (now (order .entry))))) (now (bits .entry)) ⌝ }
 {
     let n = stop_count(k);
     clear((n + 7) / 8, bits);
@@ -59,7 +67,7 @@ pub fn write_bits(k: u16, order: &[u16], bits: &mut [u8])
 // Whether no bit outside 1 to n - 1 is set: bit 0 is not, and where n is below 8, no bit of the one byte from n on.
 pub fn only_forks(k: u16, bits: &[u8]) -> bool
     requires { ⌜ (k ≤ maxK) × (byteCount (2 ^ k) ≤ length (now bits)) ⌝ }
-    ensures { λ r. ⌜ r ≡ onlyForks k (setOfBits (take (byteCount (2 ^ k)) (now (bits .entry)))) ⌝ }
+    ensures { λ r. ⌜ r ≡ onlyForks k (forksIn k (now (bits .entry))) ⌝ }
 {
     let first = bits[0] as usize;
     if first % 2 != 0 {
@@ -69,4 +77,23 @@ pub fn only_forks(k: u16, bits: &[u8]) -> bool
         return first < (1usize << stop_count(k));
     }
     true
+}
+
+// 0 where a string's set of forks can be written as an order to `room` places, and otherwise the refusal's number.
+pub fn judge_string(k: u16, bits: &[u8], room: usize) -> u16
+    ensures { λ r. ⌜ r ≡ number (orderOfBits k (now (bits .entry)) room) ⌝ }
+{
+    if MAX_K < k {
+        return WRONG_K;
+    }
+    if bits.len() < byte_count(k) {
+        return WRONG_SIZE;
+    }
+    if room < stop_count(k) {
+        return WRONG_SIZE;
+    }
+    if !only_forks(k, bits) {
+        return WRONG_FORKS;
+    }
+    0
 }

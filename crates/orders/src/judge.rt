@@ -1,14 +1,19 @@
-// An order is judged: first every stop number, then Theorem 7's test at every place.
+// A lent order is judged: k, the lengths, every stop number, then Theorem 7's test at every place.
+use base::MAX_K;
 use base::NO_SUCH_STOP;
 use base::NOT_ALLOWED;
+use base::WRONG_K;
+use base::WRONG_SIZE;
 use base::stop_count;
 ghost use mathlib.Core.Path.{_≡_};
 ghost use mathlib.Core.Bool.{true};
 ghost use Prim.Native.Nat.{_≤_, _<_, _^_};
 ghost use lib.ListN.{length, take};
+ghost use Rattle.base.specs.Outcome.{number};
 ghost use Rattle.base.specs.Size.{maxK};
 ghost use Rattle.tree.specs.Neighbour.{mayFollow};
-ghost use Rattle.orders.specs.Allowed.{stopsBelow, isAllowed, judgeStops};
+ghost use Rattle.orders.specs.Allowed.{stopsBelow, isAllowed, judgeOrder};
+ghost use Rattle.orders.specs.Lent.{orderIn, lentOrder};
 
 // Whether the first n numbers are all below n.
 fn stops_below(n: usize, order: &[u16]) -> bool
@@ -54,9 +59,9 @@ fn is_allowed(k: u16, n: usize, order: &[u16]) -> bool
 }
 
 // 0, 9 or 10 for the first n numbers.
-pub fn judge_stops(k: u16, order: &[u16]) -> u16
+fn judge_stops(k: u16, order: &[u16]) -> u16
     requires { ⌜ (k ≤ maxK) × (2 ^ k ≤ length (now order)) ⌝ }
-    ensures { λ r. ⌜ r ≡ judgeStops k (take (2 ^ k) (now (order .entry))) ⌝ }
+    ensures { λ r. ⌜ r ≡ number (judgeOrder k (orderIn k (now (order .entry)))) ⌝ }
 {
     let n = stop_count(k);
     if !stops_below(n, order) {
@@ -66,4 +71,20 @@ pub fn judge_stops(k: u16, order: &[u16]) -> u16
         return NOT_ALLOWED;
     }
     0
+}
+
+// 0 where the first n numbers are an allowed order and whatever else is lent fits, and otherwise the refusal's number.
+pub fn judge_lent(k: u16, order: &[u16], fits: bool) -> u16
+    ensures { λ r. ⌜ r ≡ number (lentOrder k (now (order .entry)) fits) ⌝ }
+{
+    if MAX_K < k {
+        return WRONG_K;
+    }
+    if order.len() < stop_count(k) {
+        return WRONG_SIZE;
+    }
+    if !fits {
+        return WRONG_SIZE;
+    }
+    judge_stops(k, order)
 }

@@ -7,15 +7,16 @@ mod judge;
 mod places;
 mod sum;
 
-use base::WRONG_FORKS;
-use base::WRONG_K;
-use base::WRONG_SIZE;
 use base::stop_count;
+use judge::judge_lent;
+pub use sum::sum_moves;
 ghost use mathlib.Core.Path.{_≡_};
+ghost use Rattle.base.specs.Buffer.{atEntry};
 ghost use Rattle.base.specs.Size.{stopCount};
 ghost use Rattle.orders.specs.Bits.{byteCount};
-ghost use Rattle.orders.specs.Call.{judgeOrder};
-ghost use Rattle.orders.specs.Answer.{BitsPromise, OrderPromise, TotalPromise};
+ghost use Rattle.orders.specs.ForkBits.{MakesBits};
+ghost use Rattle.orders.specs.OrderOfBits.{MakesOrder};
+ghost use Rattle.orders.specs.OrderTotal.{orderTotal, said};
 
 // The fork bits were written, or the refusal's number.
 pub enum BitsMade {
@@ -35,37 +36,19 @@ pub enum OrderTotal {
     Refused(u16),
 }
 
-// ceil(n/8), the bytes of a fork string.
+// ceil(n/8), the bytes of a fork string. A building block: k above 10, which has no stops, gives 0.
 pub fn byte_count(k: u16) -> usize
     ensures { λ r. ⌜ r ≡ byteCount (stopCount k) ⌝ }
 {
     (stop_count(k) + 7) / 8
 }
 
-// 0 where the first n numbers are an allowed order, and otherwise the refusal's number.
-pub fn judge_order(k: u16, order: &[u16]) -> u16
-    ensures { λ r. ⌜ r ≡ judgeOrder k (now (order .entry)) ⌝ }
-{
-    if 10 < k {
-        return WRONG_K;
-    }
-    if order.len() < stop_count(k) {
-        return WRONG_SIZE;
-    }
-    judge::judge_stops(k, order)
-}
-
-// The fork bits of an order, ceil(n/8) bytes.
+// The fork bits of an order, ceil(n/8) bytes. Refused are k above 10 (5), an order or a buffer too short (8), a stop number n or more
+// (9) and an order that is not allowed (10).
 pub fn fork_bits(k: u16, order: &[u16], bits: &mut [u8]) -> BitsMade
-    ensures { λ r. ⌜ BitsPromise k (now (order .entry)) (now (bits .entry)) r (now (bits .exit)) ⌝ }
+    ensures { λ r. ⌜ MakesBits k order bits r ⌝ }
 {
-    if 10 < k {
-        return BitsMade::Refused(WRONG_K);
-    }
-    if bits.len() < byte_count(k) {
-        return BitsMade::Refused(WRONG_SIZE);
-    }
-    let refused = judge_order(k, order);
+    let refused = judge_lent(k, order, byte_count(k) <= bits.len());
     if refused != 0 {
         return BitsMade::Refused(refused);
     }
@@ -73,40 +56,27 @@ pub fn fork_bits(k: u16, order: &[u16], bits: &mut [u8]) -> BitsMade
     BitsMade::Made
 }
 
-// The order of fork bits, n stops.
+// The order of fork bits, n stops. Refused are k above 10 (5), a string or a buffer too short (8) and a bit outside 1 to n - 1 (12).
 pub fn order_of_bits(k: u16, bits: &[u8], order: &mut [u16]) -> OrderMade
-    ensures { λ r. ⌜ OrderPromise k (now (bits .entry)) (now (order .entry)) r (now (order .exit)) ⌝ }
+    ensures { λ r. ⌜ MakesOrder k bits order r ⌝ }
 {
-    if 10 < k {
-        return OrderMade::Refused(WRONG_K);
-    }
-    if bits.len() < byte_count(k) {
-        return OrderMade::Refused(WRONG_SIZE);
-    }
-    if order.len() < stop_count(k) {
-        return OrderMade::Refused(WRONG_SIZE);
-    }
-    if !forks::only_forks(k, bits) {
-        return OrderMade::Refused(WRONG_FORKS);
+    let refused = forks::judge_string(k, bits, order.len());
+    if refused != 0 {
+        return OrderMade::Refused(refused);
     }
     places::write_order(k, bits, order);
     OrderMade::Made
 }
 
-// The total of an order by a table of n² entries.
+// The total of an order by a table of n² entries. Refused are k above 10 (5), an order too short or a table of another length (8), a
+// stop number n or more (9) and an order that is not allowed (10).
 pub fn order_total(k: u16, order: &[u16], table: &[u32]) -> OrderTotal
-    ensures { λ r. ⌜ TotalPromise k (now (order .entry)) (now (table .entry)) r ⌝ }
+    ensures { λ r. ⌜ said r ≡ orderTotal k (atEntry order) (atEntry table) ⌝ }
 {
-    if 10 < k {
-        return OrderTotal::Refused(WRONG_K);
-    }
     let n = stop_count(k);
-    if table.len() != n * n {
-        return OrderTotal::Refused(WRONG_SIZE);
-    }
-    let refused = judge_order(k, order);
+    let refused = judge_lent(k, order, table.len() == n * n);
     if refused != 0 {
         return OrderTotal::Refused(refused);
     }
-    OrderTotal::Total(sum::total(n, order, table))
+    OrderTotal::Total(sum_moves(k, order, table))
 }

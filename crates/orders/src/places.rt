@@ -1,13 +1,14 @@
 // The order that a fork string gives, place by place, each on the way down from the root.
 use base::stop_count;
 ghost use mathlib.Core.Path.{_≡_};
-ghost use mathlib.Core.List.{_++_};
 ghost use Prim.Native.Nat.{_≤_, _<_, _+_, _/_, _%_, _^_};
-ghost use lib.ListN.{length, take, drop};
+ghost use lib.ListN.{length};
+ghost use Rattle.base.specs.Outcome.{over};
 ghost use Rattle.base.specs.Size.{maxK};
 ghost use Rattle.tree.specs.Fork.{bit, side};
 ghost use Rattle.tree.specs.Order.{stopIn, orderOf};
-ghost use Rattle.orders.specs.Bits.{byteCount, setOfBits, stringBit};
+ghost use Rattle.orders.specs.Bits.{byteCount, stringBit};
+ghost use Rattle.orders.specs.Lent.{forksIn};
 
 // Bit v of a string.
 fn bit_at(bits: &[u8], v: usize) -> usize
@@ -30,7 +31,7 @@ fn go_down(bits: &[u8], p: usize, d: u16, v: usize) -> usize
 // The stop in place p.
 fn stop_in(k: u16, bits: &[u8], p: usize) -> usize
     requires { ⌜ (k ≤ maxK) × (byteCount (2 ^ k) ≤ length (now bits)) ⌝ }
-    ensures { λ r. ⌜ (r ≡ stopIn k (setOfBits (take (byteCount (2 ^ k)) (now (bits .entry)))) p) × (r < 2 ^ k) ⌝ }
+    ensures { λ r. ⌜ (r ≡ stopIn k (forksIn k (now (bits .entry))) p) × (r < 2 ^ k) ⌝ }
 {
     let mut v = 1;
     let mut d = k;
@@ -44,7 +45,7 @@ fn stop_in(k: u16, bits: &[u8], p: usize) -> usize
 // Writes the order that a string gives.
 pub fn write_order(k: u16, bits: &[u8], order: &mut [u16])
     requires { ⌜ (k ≤ maxK) × (byteCount (2 ^ k) ≤ length (now bits)) × (2 ^ k ≤ length (now order)) ⌝ }
-    ensures { λ r. ⌜ now (order .exit) ≡ orderOf k (setOfBits (take (byteCount (2 ^ k)) (now (bits .entry)))) ++ drop (2 ^ k) (now (order .entry)) ⌝ }
+    ensures { λ r. ⌜ now (order .exit) ≡ over (orderOf k (forksIn k (now (bits .entry)))) (now (order .entry)) ⌝ }
 {
     let n = stop_count(k);
     let mut p = 0;

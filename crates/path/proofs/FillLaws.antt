@@ -1,29 +1,24 @@
 -- Laws of stops stored into buffers one after the other. A buffer holds, for each stop, a list of its numbers: one law serves the coordinates,
 -- the speeds and the blends.
 use mathlib.Core.Path.{_≡_, refl, sym, ap, _∙_}
-use mathlib.Core.Bool.{Bool, true, false, _&&_}
 use mathlib.Core.List.{List, [], _∷_, _++_, append-assoc, append-nil}
 use Prim.Native.Nat.{ℕ, suc, _+_, _*_, _≤_}
-use lib.Dec.{leb}
 use native.Mathlib.Omega.{arith}
 use lib.IntN.{ℤ}
 use lib.ListN.{length}
 use lib.Seq.{sets}
-use borrow.Author.Tests.{leb-true}
 use Rattle.stop.specs.declared.Stop.{Stop}
 use Rattle.stop.specs.Stop.{coordinate}
-use Rattle.stop.specs.Lent.{coordsOf, speedsOf, blendsOf, stopsFit}
+use Rattle.stop.specs.Lent.{coordsOf, speedsOf, blendsOf}
 use Rattle.base.specs.Lists.{tabulate}
 use Rattle.stop.proofs.Lent.{length-coordsOf, length-speedsOf, length-blendsOf}
-use Rattle.base.proofs.Bools.{and-left, and-right}
 use Rattle.base.proofs.Lists.{length-tabulate, tabulate-suc}
-use Rattle.path.specs.Over.{over}
-use Rattle.path.specs.Reading.{filled, placesFit}
+use Rattle.base.specs.Outcome.{over}
+use Rattle.base.proofs.Outcome.{over-more}
 use Rattle.records.specs.Put.{put}
 use Rattle.records.proofs.PutLaws.{put-put}
 use Rattle.path.specs.Path.{stopSize}
 use Rattle.path.specs.Written.{stopBytes, stopsBytes}
-use Rattle.path.proofs.OverLaws.{over-more}
 use Rattle.path.proofs.WrittenLaws.{length-stopBytes, length-stopsBytes}
 
 module _ {A : Type 0} (all : List Stop → List A) (one : Stop → List A) (none : all [] ≡ []) (more : (s : Stop) (ss : List Stop) → all (s ∷ ss) ≡ one s ++ all ss) where
@@ -35,10 +30,12 @@ module _ {A : Type 0} (all : List Stop → List A) (one : Stop → List A) (none
   next-all n f =
       sym (ap all (tabulate-suc n f) ∙ all-append (tabulate n f) (f n ∷ []) ∙ ap (λ (l : List A). all (tabulate n f) ++ l) (more (f n) [] ∙ rw none (append-nil (one (f n)))))
 
-  -- the numbers of stop n stored after those of the stops before it
-  store-next : (n : ℕ) (f : ℕ → Stop) (old : List A) → length (all (tabulate n f)) + length (one (f n)) ≤ length old → sets (over (all (tabulate n f)) old) (length (all (tabulate n f))) (one (f n)) ≡ over (all (tabulate (suc n) f)) old
-  store-next n f old h =
-      over-more (all (tabulate n f)) (one (f n)) old h ∙ ap (λ (l : List A). over l old) (next-all n f)
+  -- the numbers of stop n stored after those of the stops before it, at a place that their count tells
+  store-at : (n : ℕ) (f : ℕ → Stop) (at : ℕ) (old : List A) → length (all (tabulate n f)) ≡ at → at + length (one (f n)) ≤ length old → sets (over (all (tabulate n f)) old) at (one (f n)) ≡ over (all (tabulate (suc n) f)) old
+  store-at n f at old e h =
+      ap (λ (i : ℕ). sets (over (all (tabulate n f)) old) i (one (f n))) (sym e)
+      ∙ over-more (all (tabulate n f)) (one (f n)) old (rw e h)
+      ∙ ap (λ (l : List A). over l old) (next-all n f)
 
 module _ (n : ℕ) (f : ℕ → Stop) where
   size-coords : length (coordsOf (tabulate n f)) ≡ 3 * n
@@ -53,16 +50,15 @@ module _ (n : ℕ) (f : ℕ → Stop) where
   pub next-coords : (old : List ℤ) → 3 * n + 3 ≤ length old → sets (over (coordsOf (tabulate n f)) old) (3 * n) (coordinate (f n) 0 ∷ coordinate (f n) 1 ∷ coordinate (f n) 2 ∷ []) ≡ over (coordsOf (tabulate (suc n) f)) old
   unfolding coordsOf
   next-coords old h =
-      rw size-coords at
-      (store-next coordsOf (λ s. coordinate s 0 ∷ coordinate s 1 ∷ coordinate s 2 ∷ []) refl (λ s ss. refl) n f old (rw size-coords h))
+      store-at coordsOf (λ s. coordinate s 0 ∷ coordinate s 1 ∷ coordinate s 2 ∷ []) refl (λ s ss. refl) n f (3 * n) old size-coords h
 
   pub next-speeds : (old : List ℕ) → n + 1 ≤ length old → sets (over (speedsOf (tabulate n f)) old) n (f n .speed ∷ []) ≡ over (speedsOf (tabulate (suc n) f)) old
   unfolding speedsOf
-  next-speeds old h = rw size-speeds at (store-next speedsOf (λ s. s .speed ∷ []) refl (λ s ss. refl) n f old (rw size-speeds h))
+  next-speeds old h = store-at speedsOf (λ s. s .speed ∷ []) refl (λ s ss. refl) n f n old size-speeds h
 
   pub next-blends : (old : List ℕ) → n + 1 ≤ length old → sets (over (blendsOf (tabulate n f)) old) n (f n .blend ∷ []) ≡ over (blendsOf (tabulate (suc n) f)) old
   unfolding blendsOf
-  next-blends old h = rw size-blends at (store-next blendsOf (λ s. s .blend ∷ []) refl (λ s ss. refl) n f old (rw size-blends h))
+  next-blends old h = store-at blendsOf (λ s. s .blend ∷ []) refl (λ s ss. refl) n f n old size-blends h
 
 -- the record of stop n put after those of the stops before it
 pub next-record : (version n : ℕ) (f : ℕ → Stop) (old : List ℕ) → 8 + (n * stopSize version + stopSize version) ≤ length old → put (put old 8 (stopsBytes version (tabulate n f))) (8 + n * stopSize version) (stopBytes version (f n)) ≡ put old 8 (stopsBytes version (tabulate (suc n) f))
@@ -73,26 +69,3 @@ next-record version n f old h =
     ap (λ (i : ℕ). put (put old 8 (stopsBytes version (tabulate n f))) (8 + i) (stopBytes version (f n))) (sym before)
     ∙ put-put old 8 (stopsBytes version (tabulate n f)) (stopBytes version (f n)) (omega arith)
     ∙ ap (put old 8) (next-all (stopsBytes version) (stopBytes version) refl (λ s ss. refl) n f)
-
--- ---- whether the stops have places
-
-pub fit-is : (n : ℕ) (coords : List ℤ) (speeds blends : List ℕ) → placesFit n (length coords) (length speeds) (length blends) ≡ stopsFit n coords speeds blends
-unfolding placesFit stopsFit
-fit-is n coords speeds blends = refl
-
-pub fit-parts : (n coords speeds blends : ℕ) → placesFit n coords speeds blends ≡ true → (3 * n ≤ coords) × (n ≤ speeds) × (n ≤ blends)
-unfolding placesFit
-fit-parts n coords speeds blends e =
-    let a = leb (3 * n) coords in
-    let b = leb n speeds in
-    let d = leb n blends in
-    let first : (a && b) ≡ true = and-left (a && b) d e in
-    (leb-true _ _ (and-left a b first), leb-true _ _ (and-right a b first), leb-true _ _ (and-right (a && b) d e))
-
-pub filled-not : {A : Type 0} (fits : Bool) (result old : List A) → fits ≡ false → filled fits result old ≡ old
-unfolding filled
-filled-not fits result old e = rw e
-
-pub filled-over : {A : Type 0} (fits : Bool) (result old : List A) → fits ≡ true → filled fits result old ≡ over result old
-unfolding filled
-filled-over fits result old e = rw e

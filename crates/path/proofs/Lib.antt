@@ -5,7 +5,7 @@ pub mod FillLaws
 pub mod HeadLaws
 pub mod Inverse
 pub mod JudgeLaws
-pub mod OverLaws
+pub mod Numbers
 pub mod PlaceLaws
 pub mod Prefix
 pub mod ReadLaws
@@ -13,5 +13,7 @@ pub mod RoundTrip
 pub mod StopFields
 pub mod StopLaws
 pub mod StopRound
+mod Words
+pub mod StoreLaws
 pub mod WriteLaws
 pub mod WrittenLaws

@@ -1,56 +1,31 @@
--- Laws of the reading call: which part of the judgement decides.
-use mathlib.Core.Path.{_≡_, refl, ap}
-use mathlib.Core.Bool.{Bool, true, false}
+-- Laws of the reading call: what its promise is for each outcome.
+use mathlib.Core.Path.{_≡_, refl, sym, ap, _∙_}
+use mathlib.Core.Bool.{true}
+use native.Mathlib.Omega.{arith}
 use mathlib.Core.List.{List}
-use Prim.Native.Nat.{ℕ}
-use lib.IntN.{ℤ}
-use Rattle.base.specs.Size.{stopCount}
+use Prim.Native.Nat.{ℕ, _^_}
+use Rattle.base.specs.Refusal.{wrongSize}
+use Rattle.base.specs.Outcome.{Outcome, gives, refuses, giving, number}
+use Rattle.base.proofs.Outcome.{passed}
 use Rattle.stop.specs.declared.Stop.{Stop}
-use Rattle.stop.specs.Lent.{coordsOf, speedsOf, blendsOf, stopsFit}
-use Rattle.path.specs.declared.PathRead.{PathRead}
+use Rattle.stop.specs.Lent.{LentStops, overStops, stopsFit}
 use Rattle.path.specs.declared.PathRead.the-variants.{Read, Refused}
-use Rattle.path.specs.Over.{over}
-use Rattle.path.specs.Path.{head, noHead, readHead, readOn, readPath, readBody, withBody, stops, noBody, PathMeaning, path, noPath}
-use Rattle.path.specs.Reading.{readAs, readCall, readNumber, readVersion, readSize, meaningNumber, meaningVersion, meaningSize, SaysRead}
+use Rattle.path.specs.Path.{path}
+use Rattle.path.specs.Reading.{readInto, stopRoom, said, PathIsRead}
 
--- a path whose reading is composed of its head and its body
-pub path-refused : (bytes : List ℕ) (highest : ℕ) (lent : ℕ → Bool) (n : ℕ) → readHead bytes highest ≡ noHead n → readPath bytes highest lent ≡ noPath n
-unfolding readPath readOn
-path-refused bytes highest lent n e = rw e
+-- a room test refuses by 8 or not at all
+pub room-sound : (lent : LentStops) (k : ℕ) → number (stopRoom lent k) ≡ 0 → stopRoom lent k ≡ gives tt
+room-sound lent k e = passed (stopsFit (2 ^ k) lent) wrongSize (gives tt) (omega arith) e .same
 
-module _ (bytes : List ℕ) (highest : ℕ) (lent : ℕ → Bool) (version k : ℕ) (rest : List ℕ) (e : readHead bytes highest ≡ head version k rest) where
-  pub path-short : lent k ≡ false → readPath bytes highest lent ≡ noPath 8
-  unfolding readPath readOn
-  path-short f = rw (e, f)
+-- there is room where it passes
+pub room-fits : (lent : LentStops) (k : ℕ) → stopRoom lent k ≡ gives tt → stopsFit (2 ^ k) lent ≡ true
+room-fits lent k e = passed (stopsFit (2 ^ k) lent) wrongSize (gives tt) (omega arith) (ap number e) .holds
 
-  pub path-body : lent k ≡ true → readPath bytes highest lent ≡ withBody version k (readBody version (stopCount k) rest)
-  unfolding readPath readOn
-  path-body f = rw (e, f)
+module _ (bytes : List ℕ) (highest : ℕ) (lent : LentStops) where
+  pub read-refused : (n : ℕ) → readInto bytes highest lent ≡ refuses n → PathIsRead bytes highest lent lent (Refused n)
+  unfolding said
+  read-refused n e = record { said = rw e; left = rw e }
 
-module _ (bytes : List ℕ) (highest : ℕ) (coords : List ℤ) (speeds blends : List ℕ) where
-  pub call-refused : (n : ℕ) → readPath bytes highest (λ k. stopsFit (stopCount k) coords speeds blends) ≡ noPath n → readCall bytes highest coords speeds blends ≡ record { answer = Refused n; coords = coords; speeds = speeds; blends = blends }
-  unfolding readCall readAs
-  call-refused n e = rw e
-
-  pub call-read : (version k : ℕ) (ss : List Stop) → readPath bytes highest (λ k. stopsFit (stopCount k) coords speeds blends) ≡ path version k ss → readCall bytes highest coords speeds blends ≡ record { answer = Read version k; coords = over (coordsOf ss) coords; speeds = over (speedsOf ss) speeds; blends = over (blendsOf ss) blends }
-  unfolding readCall readAs
-  call-read version k ss e = rw e
-
--- an answer that is as the definition says has its number and values
-pub says-as : (coords : List ℤ) (speeds blends : List ℕ) (m : PathMeaning) (r : PathRead) → r ≡ readAs coords speeds blends m .answer → SaysRead r m
-unfolding readAs readNumber readVersion readSize meaningNumber meaningVersion meaningSize
-says-as coords speeds blends (path version k ss) r e = record { number = ap readNumber e; version = ap readVersion e; size = ap readSize e }
-says-as coords speeds blends (noPath n) r e = record { number = ap readNumber e; version = ap readVersion e; size = ap readSize e }
-
-pub says-read : (bytes : List ℕ) (highest : ℕ) (coords : List ℤ) (speeds blends : List ℕ) (r : PathRead) → r ≡ readCall bytes highest coords speeds blends .answer
-    → SaysRead r (readPath bytes highest (λ k. stopsFit (stopCount k) coords speeds blends))
-unfolding readCall
-says-read bytes highest coords speeds blends r e = says-as coords speeds blends _ r e
-
-pub body-path : (version k : ℕ) (ss : List Stop) → withBody version k (stops ss) ≡ path version k ss
-unfolding withBody
-body-path version k ss = refl
-
-pub body-noPath : (version k n : ℕ) → withBody version k (noBody n) ≡ noPath n
-unfolding withBody
-body-noPath version k n = refl
+  pub read-done : (version k : ℕ) (ss : List Stop) (afterwards : LentStops) → readInto bytes highest lent ≡ gives (path version k ss) → afterwards ≡ overStops ss lent → PathIsRead bytes highest lent afterwards (Read version k)
+  unfolding said
+  read-done version k ss afterwards e l = record { said = rw e; left = rw e l }

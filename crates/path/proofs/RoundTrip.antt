@@ -3,30 +3,30 @@
 use mathlib.Core.Path.{_≡_, refl, sym, ap, _∙_}
 use mathlib.Core.Bool.{Bool, true, false, cond, _||_, not, true≢false}
 use mathlib.Core.List.{List, [], _∷_, _++_, append-assoc, append-nil}
-use Prim.Native.Nat.{ℕ, zero, suc, _+_, _-_, _*_, _≤_}
+use Prim.Native.Nat.{ℕ, zero, suc, _+_, _-_, _*_, _^_, _≤_}
 use native.Mathlib.Nat.{zero-mul, suc-mul}
 use native.Mathlib.Omega.{arith}
 use lib.Dec.{leb, eqb}
 use lib.ListN.{length, take, drop, length-append, length-drop, take-append-drop}
 use lib.Seq.{take-at, drop-at, take-all}
 use borrow.Author.Tests.{le-leb, eqb-true}
-use Rattle.base.specs.Size.{stopCount}
-use Rattle.records.specs.Field.{number, bytesOf, areBytes}
-use Rattle.records.specs.Record.{recordLength, recordBytes, isKind, takeRecord, taken}
+use Rattle.base.specs.Outcome.{Outcome, gives, andThen, giving}
+use Rattle.records.specs.Field.{numberOf, bytesOf, areBytes}
+use Rattle.records.specs.Record.{recordLength, recordBytes, isKind, takeRecord, Taken, taken}
 use Rattle.records.proofs.FieldLaws.{length-bytesOf, number-bytesOf, areBytes-take, areBytes-drop}
 use Rattle.records.proofs.LengthLaws.{path-length, end-length, length-small}
 use Rattle.records.proofs.RecordLaws.{take-written, taken-written, taken-whole}
 use Rattle.stop.specs.declared.Stop.{Stop}
-use Rattle.stop.specs.Stop.{inRange}
+use Rattle.stop.specs.Stop.{inRange, judgeStop}
 use Rattle.stop.specs.Lent.{allInRange}
 use Rattle.base.proofs.Bools.{and-left, and-right}
-use Rattle.path.specs.Path.{head, readHead, headOf, readPath, readBody, stops, stopOf, stopThen, andStop, endOf, path, withBody, knownVersion, stopSize, pathSize}
+use Rattle.path.specs.Path.{pathHead, path, readHead, headOf, readPath, readBody, stopOf, stopThen, endOf, knownVersion, stopSize, pathSize}
 use Rattle.path.specs.Written.{stopContent, stopBytes, stopsBytes, headBytes, pathBytes, losesField, losesAny}
 use Rattle.path.proofs.BodyLaws.{body-zero, body-suc}
 use Rattle.path.proofs.HeadLaws.{fields-good}
 use Rattle.path.proofs.Inverse.{next-of, ended-of, accepted-of, opened-of}
 use Rattle.path.proofs.PlaceLaws.{size-length, size-range}
-use Rattle.path.proofs.ReadLaws.{path-body, body-path}
+use Rattle.path.proofs.JudgeLaws.{path-body}
 use Rattle.path.proofs.StopFields.{explicit-stop, explicit-loss}
 use Rattle.path.proofs.StopRound.{stop-back, content-back, plain-back}
 use Rattle.path.proofs.WrittenLaws.{length-content, size-is}
@@ -63,28 +63,28 @@ or-right false b e = e
 
 -- ---- written, then read
 
-head-back : (version k highest : ℕ) (rest : List ℕ) → knownVersion highest ≡ true → knownVersion version ≡ true → version ≤ highest → k ≤ 10 → readHead (headBytes version k ++ rest) highest ≡ head version k rest
+head-back : (version k highest : ℕ) (rest : List ℕ) → knownVersion highest ≡ true → knownVersion version ≡ true → version ≤ highest → k ≤ 10 → readHead (headBytes version k ++ rest) highest ≡ gives (pathHead version k rest)
 unfolding readHead headOf headBytes
 head-back version k highest rest kh kv le small =
     let content = bytesOf 2 version ++ bytesOf 2 k in
     let long : recordLength 1 highest 0 ≡ 2 + length content = rw (path-length, length-append, length-bytesOf, length-bytesOf) in
-    let v : number (take 2 content) ≡ version =
+    let v : numberOf (take 2 content) ≡ version =
     rw (take-at (bytesOf 2 version) (bytesOf 2 k) 2 (length-bytesOf 2 version)) (number-bytesOf 2 version (omega (arith, known-small version kv))) in
-    let n : number (take 2 (drop 2 content)) ≡ k =
+    let n : numberOf (take 2 (drop 2 content)) ≡ k =
     rw (drop-at (bytesOf 2 version) (bytesOf 2 k) 2 (length-bytesOf 2 version), take-all 2 (bytesOf 2 k) (rw length-bytesOf (omega arith)))
     (number-bytesOf 2 k (omega arith)) in
     rw kh
-    (ap (headOf highest) (take-written 1 content rest (recordLength 1 highest 0) path-kind long (omega (arith, length-small 1 highest)))
+    (ap (λ (t : Outcome Taken). andThen t (headOf highest)) (take-written 1 content rest (recordLength 1 highest 0) path-kind long (omega (arith, length-small 1 highest)))
     ∙ rw (v, n) (fields-good highest version k rest kv le small))
 
-end-back : (version : ℕ) → readBody version 0 (recordBytes 3 []) ≡ stops []
+end-back : (version : ℕ) → readBody version 0 (recordBytes 3 []) ≡ gives []
 unfolding endOf
 end-back version =
     body-zero version (recordBytes 3 [])
-    ∙ ap endOf (rw append-nil at (take-written 3 [] [] (recordLength 3 version 0) end-kind (end-length version) (omega (arith, length-small 3 version))))
+    ∙ ap (λ (t : Outcome Taken). andThen t endOf) (rw append-nil at (take-written 3 [] [] (recordLength 3 version 0) end-kind (end-length version) (omega (arith, length-small 3 version))))
 
-pub body-back : (version : ℕ) (ss : List Stop) → allInRange ss ≡ true → losesAny version ss ≡ false → readBody version (length ss) (stopsBytes version ss ++ recordBytes 3 []) ≡ stops ss
-unfolding stopsBytes stopBytes allInRange losesAny stopThen andStop
+pub body-back : (version : ℕ) (ss : List Stop) → allInRange ss ≡ true → losesAny version ss ≡ false → readBody version (length ss) (stopsBytes version ss ++ recordBytes 3 []) ≡ gives ss
+unfolding stopsBytes stopBytes allInRange losesAny stopThen judgeStop
 body-back version [] r l = end-back version
 body-back version (s ∷ ss) r l =
     let rest = stopsBytes version ss ++ recordBytes 3 [] in
@@ -93,25 +93,25 @@ body-back version (s ∷ ss) r l =
     let back : stopOf version content ≡ s = stop-back version s range (or-left (losesField version s) (losesAny version ss) l) in
     let parts : recordBytes 2 content ++ stopsBytes version ss ++ recordBytes 3 [] ≡ recordBytes 2 content ++ rest =
     append-assoc (recordBytes 2 content) (stopsBytes version ss) (recordBytes 3 []) in
-    let whole : takeRecord 2 (recordLength 2 version 0) (recordBytes 2 content ++ rest) ≡ taken content rest =
+    let whole : takeRecord 2 (recordLength 2 version 0) (recordBytes 2 content ++ rest) ≡ gives (taken content rest) =
     take-written 2 content rest (recordLength 2 version 0) stop-kind (sym (length-content version s)) (omega (arith, length-small 2 version)) in
     body-suc version (length ss) _
-    ∙ ap (stopThen version (readBody version (length ss))) (ap (takeRecord 2 (recordLength 2 version 0)) parts ∙ whole)
-    ∙ rw (back, range) (ap (andStop s) (body-back version ss (and-right (inRange s) (allInRange ss) r) (or-right (losesField version s) (losesAny version ss) l)))
+    ∙ ap (λ (t : Outcome Taken). andThen t (stopThen version (readBody version (length ss)))) (ap (takeRecord 2 (recordLength 2 version 0)) parts ∙ whole)
+    ∙ rw (back, range) (ap (giving (λ others. s ∷ others)) (body-back version ss (and-right (inRange s) (allInRange ss) r) (or-right (losesField version s) (losesAny version ss) l)))
 
 -- 'reading what was written': stops in range, 2^k of them, that lose no field in the version
-pub read-written : (version k highest : ℕ) (lent : ℕ → Bool) (ss : List Stop) → knownVersion highest ≡ true → knownVersion version ≡ true → version ≤ highest → k ≤ 10 → lent k ≡ true → length ss ≡ stopCount k → allInRange ss ≡ true → losesAny version ss ≡ false → readPath (pathBytes version k ss) highest lent ≡ path version k ss
+pub read-written : (version k highest : ℕ) (test : ℕ → Outcome Unit) (ss : List Stop) → knownVersion highest ≡ true → knownVersion version ≡ true → version ≤ highest → k ≤ 10 → test k ≡ gives tt → length ss ≡ 2 ^ k → allInRange ss ≡ true → losesAny version ss ≡ false → readPath (pathBytes version k ss) highest test ≡ gives (path version k ss)
 unfolding pathBytes
-read-written version k highest lent ss kh kv le small fits count range kept =
+read-written version k highest test ss kh kv le small fits count range kept =
     let rest = stopsBytes version ss ++ recordBytes 3 [] in
     rw (append-assoc (headBytes version k) (stopsBytes version ss) (recordBytes 3 []))
-    (path-body (headBytes version k ++ rest) highest lent version k rest (head-back version k highest rest kh kv le small) fits
-    ∙ rw (← count) (ap (withBody version k) (body-back version ss range kept) ∙ body-path version k ss))
+    (path-body (headBytes version k ++ rest) highest test version k rest (head-back version k highest rest kh kv le small) fits
+    ∙ rw (← count) (ap (giving (path version k)) (body-back version ss range kept)))
 
 -- ---- read, then written
 
 -- the body that stops were read from
-pub body-forth : (version n : ℕ) (s : List ℕ) (ss : List Stop) → areBytes s ≡ true → readBody version n s ≡ stops ss → s ≡ stopsBytes version ss ++ recordBytes 3 []
+pub body-forth : (version n : ℕ) (s : List ℕ) (ss : List Stop) → areBytes s ≡ true → readBody version n s ≡ gives ss → s ≡ stopsBytes version ss ++ recordBytes 3 []
 unfolding stopsBytes stopBytes
 body-forth version zero s ss bytes e =
     let d = ended-of version s ss e in
@@ -138,7 +138,7 @@ body-forth version (suc n) s ss bytes e =
     ∙ ap (λ (l : List Stop). stopsBytes version l ++ recordBytes 3 []) (sym (x .list))
 
 -- the head that a version and k were read from
-head-forth : (bytes rest : List ℕ) (highest version k : ℕ) → areBytes bytes ≡ true → readHead bytes highest ≡ head version k rest → bytes ≡ headBytes version k ++ rest
+head-forth : (bytes rest : List ℕ) (highest version k : ℕ) → areBytes bytes ≡ true → readHead bytes highest ≡ gives (pathHead version k rest) → bytes ≡ headBytes version k ++ rest
 unfolding headBytes
 head-forth bytes rest highest version k b e =
     let o = opened-of bytes highest version k rest e in
@@ -153,12 +153,12 @@ head-forth bytes rest highest version k b e =
     w .0 ∙ ap (λ (c : List ℕ). recordBytes 1 c ++ rest) (sym (rw (first, second) (take-append-drop 2 (o .content))))
 
 -- 'writing what was read in the same version gives the bytes again'
-pub write-read : (bytes : List ℕ) (highest : ℕ) (lent : ℕ → Bool) (version k : ℕ) (ss : List Stop) → areBytes bytes ≡ true → readPath bytes highest lent ≡ path version k ss → pathBytes version k ss ≡ bytes
+pub write-read : (bytes : List ℕ) (highest : ℕ) (test : ℕ → Outcome Unit) (version k : ℕ) (ss : List Stop) → areBytes bytes ≡ true → readPath bytes highest test ≡ gives (path version k ss) → pathBytes version k ss ≡ bytes
 unfolding pathBytes
-write-read bytes highest lent version k ss b e =
-    let a = accepted-of bytes highest lent version k ss e in
+write-read bytes highest test version k ss b e =
+    let a = accepted-of bytes highest test version k ss e in
     append-assoc (headBytes version k) (stopsBytes version ss) (recordBytes 3 [])
-    ∙ ap (λ (r : List ℕ). headBytes version k ++ r) (sym (body-forth version (stopCount k) (drop 8 bytes) ss (areBytes-drop 8 bytes b) (a .body)))
+    ∙ ap (λ (r : List ℕ). headBytes version k ++ r) (sym (body-forth version (2 ^ k) (drop 8 bytes) ss (areBytes-drop 8 bytes b) (a .body)))
     ∙ sym (head-forth bytes (drop 8 bytes) highest version k b (a .opened))
 
 -- ---- what is known of stops that were read
@@ -167,7 +167,7 @@ field-kept : (version : ℕ) (content : List ℕ) → losesField version (stopOf
 field-kept version content =
     explicit-loss version (stopOf version content) ∙ rw (explicit-stop version content) (pick (leb 5 version))
   where
-    pick : (b : Bool) → not (b || eqb (cond b (number (take 2 (drop 14 content))) 0) 0) ≡ false
+    pick : (b : Bool) → not (b || eqb (cond b (numberOf (take 2 (drop 14 content))) 0) 0) ≡ false
     pick true = refl
     pick false = refl
 
@@ -178,7 +178,7 @@ pub record Facts (version n : ℕ) (s : List ℕ) (ss : List Stop) : Type 0 wher
   pub kept : losesAny version ss ≡ false
   pub size : length s ≡ n * stopSize version + 4
 
-pub body-facts : (version n : ℕ) (s : List ℕ) (ss : List Stop) → readBody version n s ≡ stops ss → Facts version n s ss
+pub body-facts : (version n : ℕ) (s : List ℕ) (ss : List Stop) → readBody version n s ≡ gives ss → Facts version n s ss
 unfolding allInRange losesAny
 body-facts version zero s ss e =
     let d = ended-of version s ss e in
@@ -206,13 +206,13 @@ body-facts version (suc n) s ss e =
     }
 
 -- an accepted path has exactly its version's and its k's bytes
-pub accepted-size : (bytes : List ℕ) (highest : ℕ) (lent : ℕ → Bool) (version k : ℕ) (ss : List Stop) → readPath bytes highest lent ≡ path version k ss → length bytes ≡ pathSize version k
-accepted-size bytes highest lent version k ss e =
-    let a = accepted-of bytes highest lent version k ss e in
-    let f = body-facts version (stopCount k) (drop 8 bytes) ss (a .body) in
+pub accepted-size : (bytes : List ℕ) (highest : ℕ) (test : ℕ → Outcome Unit) (version k : ℕ) (ss : List Stop) → readPath bytes highest test ≡ gives (path version k ss) → length bytes ≡ pathSize version k
+accepted-size bytes highest test version k ss e =
+    let a = accepted-of bytes highest test version k ss e in
+    let f = body-facts version (2 ^ k) (drop 8 bytes) ss (a .body) in
     let rest : length (drop 8 bytes) ≡ length bytes - 8 = length-drop 8 bytes in
     let long : 8 ≤ length bytes = a .long in
-    let size : length (drop 8 bytes) ≡ stopCount k * stopSize version + 4 = f .size in
+    let size : length (drop 8 bytes) ≡ 2 ^ k * stopSize version + 4 = f .size in
     rw size-is (omega arith)
 
 -- ---- another version
@@ -224,13 +224,13 @@ any-new version [] h = refl
 any-new version (s ∷ ss) h = rw (explicit-loss version s, le-leb 5 version h) (any-new version ss h)
 
 -- a path that was read, written in a version that holds its stops, means the same stops
-pub rewritten : (bytes : List ℕ) (highest : ℕ) (lent : ℕ → Bool) (version k : ℕ) (ss : List Stop) (to known-to : ℕ) → readPath bytes highest lent ≡ path version k ss → knownVersion known-to ≡ true → knownVersion to ≡ true → to ≤ known-to → losesAny to ss ≡ false → readPath (pathBytes to k ss) known-to lent ≡ path to k ss
-rewritten bytes highest lent version k ss to known-to e kh kt le kept =
-    let a = accepted-of bytes highest lent version k ss e in
-    let f = body-facts version (stopCount k) (drop 8 bytes) ss (a .body) in
-    read-written to k known-to lent ss kh kt le (a .small) (a .fits) (f .count) (f .range) kept
+pub rewritten : (bytes : List ℕ) (highest : ℕ) (test : ℕ → Outcome Unit) (version k : ℕ) (ss : List Stop) (to known-to : ℕ) → readPath bytes highest test ≡ gives (path version k ss) → knownVersion known-to ≡ true → knownVersion to ≡ true → to ≤ known-to → losesAny to ss ≡ false → readPath (pathBytes to k ss) known-to test ≡ gives (path to k ss)
+rewritten bytes highest test version k ss to known-to e kh kt le kept =
+    let a = accepted-of bytes highest test version k ss e in
+    let f = body-facts version (2 ^ k) (drop 8 bytes) ss (a .body) in
+    read-written to k known-to test ss kh kt le (a .small) (a .takes) (f .count) (f .range) kept
 
 -- 'a version 4 path and its version 5 rewriting mean the same stops'
-pub four-to-five : (bytes : List ℕ) (highest : ℕ) (lent : ℕ → Bool) (k : ℕ) (ss : List Stop) → readPath bytes highest lent ≡ path 4 k ss → readPath (pathBytes 5 k ss) 5 lent ≡ path 5 k ss
+pub four-to-five : (bytes : List ℕ) (highest : ℕ) (test : ℕ → Outcome Unit) (k : ℕ) (ss : List Stop) → readPath bytes highest test ≡ gives (path 4 k ss) → readPath (pathBytes 5 k ss) 5 test ≡ gives (path 5 k ss)
 unfolding knownVersion
-four-to-five bytes highest lent k ss e = rewritten bytes highest lent 4 k ss 5 5 e refl refl (omega arith) (any-new 5 ss (omega arith))
+four-to-five bytes highest test k ss e = rewritten bytes highest test 4 k ss 5 5 e refl refl (omega arith) (any-new 5 ss (omega arith))

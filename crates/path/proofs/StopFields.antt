@@ -7,27 +7,27 @@ use lib.Dec.{leb, eqb}
 use lib.ListN.{length, take, drop, getD}
 use lib.Seq.{drop-drop}
 use borrow.Author.Tests.{le-leb, lt-leb}
-use Rattle.records.specs.Field.{number, bytesOf, signed, readFields, writeFields}
+use Rattle.records.specs.Field.{numberOf, bytesOf, signed, readFields, writeFields}
 use Rattle.records.specs.Record.{stopFields}
 use Rattle.stop.specs.declared.Stop.{Stop}
 use Rattle.path.specs.Path.{stopValues, stopOfValues, stopOf}
 use Rattle.path.specs.Written.{stopContent, pointBytes, paceBytes, allZero, losesField}
 
 -- the blend, where the version has one
-last-field : (version : ℕ) (s : List ℕ) → getD (readFields (cond (leb 5 version) (2 ∷ []) []) s) 0 0 ≡ cond (leb 5 version) (number (take 2 s)) 0
+last-field : (version : ℕ) (s : List ℕ) → getD (readFields (cond (leb 5 version) (2 ∷ []) []) s) 0 0 ≡ cond (leb 5 version) (numberOf (take 2 s)) 0
 unfolding readFields
 last-field version s = pick (leb 5 version)
   where
-    pick : (b : Bool) → getD (readFields (cond b (2 ∷ []) []) s) 0 0 ≡ cond b (number (take 2 s)) 0
+    pick : (b : Bool) → getD (readFields (cond b (2 ∷ []) []) s) 0 0 ≡ cond b (numberOf (take 2 s)) 0
     pick true = refl
     pick false = refl
 
 -- the stop that a content means, field by field
-pub explicit-stop : (version : ℕ) (s : List ℕ) → stopOf version s ≡ record { at = signed (number (take 4 s)) ∷ signed (number (take 4 (drop 4 s))) ∷ signed (number (take 4 (drop 8 s))) ∷ []; speed = number (take 2 (drop 12 s)); blend = cond (leb 5 version) (number (take 2 (drop 14 s))) 0 }
+pub explicit-stop : (version : ℕ) (s : List ℕ) → stopOf version s ≡ record { at = signed (numberOf (take 4 s)) ∷ signed (numberOf (take 4 (drop 4 s))) ∷ signed (numberOf (take 4 (drop 8 s))) ∷ []; speed = numberOf (take 2 (drop 12 s)); blend = cond (leb 5 version) (numberOf (take 2 (drop 14 s))) 0 }
 unfolding stopOf stopOfValues readFields stopFields
 explicit-stop version s =
     rw (drop-drop 4 4 s, drop-drop 4 8 s, drop-drop 2 12 s)
-    (ap (λ (b : ℕ). record { at = signed (number (take 4 s)) ∷ signed (number (take 4 (drop 4 s))) ∷ signed (number (take 4 (drop 8 s))) ∷ []; speed = number (take 2 (drop 12 s)); blend = b })
+    (ap (λ (b : ℕ). record { at = signed (numberOf (take 4 s)) ∷ signed (numberOf (take 4 (drop 4 s))) ∷ signed (numberOf (take 4 (drop 8 s))) ∷ []; speed = numberOf (take 2 (drop 12 s)); blend = b })
     (last-field version (drop 14 s)))
 
 -- the parts of what a stop is written as

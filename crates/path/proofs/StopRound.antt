@@ -10,13 +10,14 @@ use lib.IntN.{ℤ, pos, natAbs}
 use lib.ListN.{length, take, drop, getD, length-append, length-drop, take-append-drop, drop-of-length-le}
 use lib.Seq.{take-at, drop-at, drop-drop, take-all, length-take-le}
 use borrow.Author.Tests.{leb-true, leb-false, eqb-true, not-false}
-use Rattle.records.specs.Field.{number, bytesOf, areBytes, signed, unsigned, writeFields}
+use Rattle.records.specs.Field.{numberOf, bytesOf, areBytes, signed, unsigned, writeFields}
 use Rattle.records.specs.Record.{recordLength, stopFields}
 use Rattle.records.proofs.FieldLaws.{length-bytesOf, number-bytesOf, bytesOf-number, number-lt, signed-unsigned, unsigned-signed, unsigned-lt, areBytes-take, areBytes-drop}
 use Rattle.records.proofs.LengthLaws.{length-old, length-new, stop-length-4, stop-length-5}
 use Rattle.stop.specs.declared.Stop.{Stop}
 use Rattle.stop.specs.Stop.{inRange, coordinate}
 use Rattle.stop.proofs.Limits.{good, Good}
+use Rattle.stop.proofs.Lent.{three-is}
 use Rattle.path.specs.Path.{stopOf}
 use Rattle.path.specs.Written.{pointBytes, paceBytes, stopContent, losesField}
 use Rattle.path.proofs.StopFields.{explicit-stop, explicit-content, explicit-pace, explicit-loss, pace-new}
@@ -26,18 +27,10 @@ use Rattle.path.proofs.StopLaws.{same-stop}
 field-at : (w o : ℕ) (s before field after : List ℕ) → s ≡ before ++ (field ++ after) → length before ≡ o → length field ≡ w → take w (drop o s) ≡ field
 field-at w o s before field after e lb lf = rw (e, drop-at before (field ++ after) o lb) (take-at field after w lf)
 
-coordinate-back : (z : ℤ) → natAbs z ≤ 20000 → z ≡ signed (number (bytesOf 4 (unsigned z)))
+coordinate-back : (z : ℤ) → natAbs z ≤ 20000 → z ≡ signed (numberOf (bytesOf 4 (unsigned z)))
 coordinate-back z h =
     let small : natAbs z < 2 ^ 31 = omega arith in
     sym (rw (number-bytesOf 4 (unsigned z) (unsigned-lt z small)) (signed-unsigned z small))
-
--- a list of three is its three elements
-three-of : (l : List ℤ) → length l ≡ 3 → getD l 0 (pos 0) ∷ getD l 1 (pos 0) ∷ getD l 2 (pos 0) ∷ [] ≡ l
-three-of [] h = absurd (omega arith)
-three-of (x ∷ []) h = absurd (omega arith)
-three-of (x ∷ y ∷ []) h = absurd (omega arith)
-three-of (x ∷ y ∷ z ∷ []) h = refl
-three-of (x ∷ y ∷ z ∷ w ∷ l) h = absurd (omega arith)
 
 -- ---- written, then read
 
@@ -53,23 +46,23 @@ module _ (version : ℕ) (s : Stop) where
   fields-are = rw (explicit-content version s) (simp append-assoc)
 
   module _ (g : Good s) where
-    back-x : coordinate s 0 ≡ signed (number (take 4 (stopContent version s)))
+    back-x : coordinate s 0 ≡ signed (numberOf (take 4 (stopContent version s)))
     unfolding field
     back-x =
         coordinate-back (coordinate s 0) (g .x)
-        ∙ ap (λ (l : List ℕ). signed (number l)) (sym (field-at 4 0 _ [] (field 0) (field 1 ++ (field 2 ++ pace)) fields-are refl (length-bytesOf 4 _)))
+        ∙ ap (λ (l : List ℕ). signed (numberOf l)) (sym (field-at 4 0 _ [] (field 0) (field 1 ++ (field 2 ++ pace)) fields-are refl (length-bytesOf 4 _)))
 
-    back-y : coordinate s 1 ≡ signed (number (take 4 (drop 4 (stopContent version s))))
+    back-y : coordinate s 1 ≡ signed (numberOf (take 4 (drop 4 (stopContent version s))))
     unfolding field
     back-y =
         coordinate-back (coordinate s 1) (g .y)
-        ∙ ap (λ (l : List ℕ). signed (number l)) (sym (field-at 4 4 _ (field 0) (field 1) (field 2 ++ pace) fields-are (length-bytesOf 4 _) (length-bytesOf 4 _)))
+        ∙ ap (λ (l : List ℕ). signed (numberOf l)) (sym (field-at 4 4 _ (field 0) (field 1) (field 2 ++ pace) fields-are (length-bytesOf 4 _) (length-bytesOf 4 _)))
 
-    back-z : coordinate s 2 ≡ signed (number (take 4 (drop 8 (stopContent version s))))
+    back-z : coordinate s 2 ≡ signed (numberOf (take 4 (drop 8 (stopContent version s))))
     unfolding field
     back-z =
         coordinate-back (coordinate s 2) (g .z)
-        ∙ ap (λ (l : List ℕ). signed (number l))
+        ∙ ap (λ (l : List ℕ). signed (numberOf l))
         (sym (field-at 4 8 _ (field 0 ++ field 1) (field 2) pace (fields-are ∙ simp append-assoc) (rw (length-append, length-bytesOf, length-bytesOf)) (length-bytesOf 4 _)))
 
     front : List ℕ
@@ -87,9 +80,9 @@ module _ (version : ℕ) (s : Stop) where
     unfolding pace paceBytes writeFields stopFields
     speed-after = pace-after
 
-    back-speed : s .speed ≡ number (take 2 (drop 12 (stopContent version s)))
+    back-speed : s .speed ≡ numberOf (take 2 (drop 12 (stopContent version s)))
     back-speed =
-        sym (ap number (field-at 2 12 _ front (bytesOf 2 (s .speed)) (writeFields (drop 4 (stopFields version)) (s .blend ∷ [])) speed-after length-front (length-bytesOf 2 _))
+        sym (ap numberOf (field-at 2 12 _ front (bytesOf 2 (s .speed)) (writeFields (drop 4 (stopFields version)) (s .blend ∷ [])) speed-after length-front (length-bytesOf 2 _))
         ∙ number-bytesOf 2 (s .speed) (omega (arith, g .fast)))
 
     pace-both : leb 5 version ≡ true → stopContent version s ≡ front ++ bytesOf 2 (s .speed) ++ (bytesOf 2 (s .blend) ++ [])
@@ -99,12 +92,12 @@ module _ (version : ℕ) (s : Stop) where
         ∙ ap (λ (l : List ℕ). front ++ l) (pace-new version (s .speed) (s .blend) (leb-true _ _ e))
         ∙ simp (append-assoc, append-nil)
 
-    back-blend : losesField version s ≡ false → s .blend ≡ cond (leb 5 version) (number (take 2 (drop 14 (stopContent version s)))) 0
+    back-blend : losesField version s ≡ false → s .blend ≡ cond (leb 5 version) (numberOf (take 2 (drop 14 (stopContent version s)))) 0
     back-blend kept = pick (leb 5 version) refl (sym (explicit-loss version s) ∙ kept)
       where
-        pick : (b : Bool) → leb 5 version ≡ b → not (b || eqb (s .blend) 0) ≡ false → s .blend ≡ cond b (number (take 2 (drop 14 (stopContent version s)))) 0
+        pick : (b : Bool) → leb 5 version ≡ b → not (b || eqb (s .blend) 0) ≡ false → s .blend ≡ cond b (numberOf (take 2 (drop 14 (stopContent version s)))) 0
         pick true e k =
-            sym (ap number (field-at 2 14 _ (front ++ bytesOf 2 (s .speed)) (bytesOf 2 (s .blend)) [] (pace-both e) (rw (length-append, length-front, length-bytesOf)) (length-bytesOf 2 _))
+            sym (ap numberOf (field-at 2 14 _ (front ++ bytesOf 2 (s .speed)) (bytesOf 2 (s .blend)) [] (pace-both e) (rw (length-append, length-front, length-bytesOf)) (length-bytesOf 2 _))
             ∙ number-bytesOf 2 (s .blend) (omega (arith, g .blend)))
         pick false e k = eqb-true _ _ (not-false _ k)
 
@@ -113,28 +106,28 @@ module _ (version : ℕ) (s : Stop) where
   stop-back r kept =
       let g = good s r in
       sym (same-stop version (stopContent version s) (back-x g) (back-y g) (back-z g) (back-speed g) (back-blend g kept))
-      ∙ ap (λ (l : List ℤ). record { at = l; speed = s .speed; blend = s .blend }) (three-of (s .at) (g .three))
+      ∙ ap (λ (l : List ℤ). record { at = l; speed = s .speed; blend = s .blend }) (three-is (s .at) (g .three))
 
 -- ---- read, then written
 
 module _ (c : List ℕ) (bytes : areBytes c ≡ true) where
-  pub plain-back : (w o : ℕ) → o + w ≤ length c → bytesOf w (number (take w (drop o c))) ≡ take w (drop o c)
+  pub plain-back : (w o : ℕ) → o + w ≤ length c → bytesOf w (numberOf (take w (drop o c))) ≡ take w (drop o c)
   plain-back w o h =
       let len : length (take w (drop o c)) ≡ w = length-take-le w (drop o c) (rw length-drop (omega arith)) in
-      ap (λ (n : ℕ). bytesOf n (number (take w (drop o c)))) (sym len)
+      ap (λ (n : ℕ). bytesOf n (numberOf (take w (drop o c)))) (sym len)
       ∙ bytesOf-number (take w (drop o c)) (areBytes-take w (drop o c) (areBytes-drop o c bytes))
 
-  signed-back : (o : ℕ) → o + 4 ≤ length c → bytesOf 4 (unsigned (signed (number (take 4 (drop o c))))) ≡ take 4 (drop o c)
+  signed-back : (o : ℕ) → o + 4 ≤ length c → bytesOf 4 (unsigned (signed (numberOf (take 4 (drop o c))))) ≡ take 4 (drop o c)
   signed-back o h =
       let len : length (take 4 (drop o c)) ≡ 4 = length-take-le 4 (drop o c) (rw length-drop (omega arith)) in
-      let small : number (take 4 (drop o c)) < 2 ^ 32 = rw len at (number-lt (take 4 (drop o c)) (areBytes-take 4 (drop o c) (areBytes-drop o c bytes))) in
-      rw (unsigned-signed (number (take 4 (drop o c))) small) (plain-back 4 o h)
+      let small : numberOf (take 4 (drop o c)) < 2 ^ 32 = rw len at (number-lt (take 4 (drop o c)) (areBytes-take 4 (drop o c) (areBytes-drop o c bytes))) in
+      rw (unsigned-signed (numberOf (take 4 (drop o c))) small) (plain-back 4 o h)
 
   -- what comes after a part is that part's next one and what comes after it
   part-then : (w o : ℕ) → take w (drop o c) ++ drop (o + w) c ≡ drop o c
   part-then w o = ap (λ (l : List ℕ). take w (drop o c) ++ l) (sym (drop-drop w o c)) ∙ take-append-drop w (drop o c)
 
-  point-back : 14 ≤ length c → bytesOf 4 (unsigned (signed (number (take 4 c)))) ++ bytesOf 4 (unsigned (signed (number (take 4 (drop 4 c))))) ++ bytesOf 4 (unsigned (signed (number (take 4 (drop 8 c))))) ++ (bytesOf 2 (number (take 2 (drop 12 c))) ++ drop 14 c) ≡ c
+  point-back : 14 ≤ length c → bytesOf 4 (unsigned (signed (numberOf (take 4 c)))) ++ bytesOf 4 (unsigned (signed (numberOf (take 4 (drop 4 c))))) ++ bytesOf 4 (unsigned (signed (numberOf (take 4 (drop 8 c))))) ++ (bytesOf 2 (numberOf (take 2 (drop 12 c))) ++ drop 14 c) ≡ c
   point-back h =
       rw (signed-back 0 (omega arith), signed-back 4 (omega arith), signed-back 8 (omega arith), plain-back 2 12 (omega arith), part-then 2 12)
       (simp append-assoc (rw (part-then 4 8, part-then 4 4) (part-then 4 0)))
@@ -144,10 +137,10 @@ module _ (c : List ℕ) (bytes : areBytes c ≡ true) where
   unfolding pointBytes
   content-back version size = rw (explicit-content version (stopOf version c), explicit-stop version c, explicit-pace) (pick (leb 5 version) refl)
     where
-      pick : (b : Bool) → leb 5 version ≡ b → bytesOf 4 (unsigned (signed (number (take 4 c)))) ++ bytesOf 4 (unsigned (signed (number (take 4 (drop 4 c))))) ++ bytesOf 4 (unsigned (signed (number (take 4 (drop 8 c))))) ++ (bytesOf 2 (number (take 2 (drop 12 c))) ++ cond b (bytesOf 2 (cond b (number (take 2 (drop 14 c))) 0)) []) ≡ c
+      pick : (b : Bool) → leb 5 version ≡ b → bytesOf 4 (unsigned (signed (numberOf (take 4 c)))) ++ bytesOf 4 (unsigned (signed (numberOf (take 4 (drop 4 c))))) ++ bytesOf 4 (unsigned (signed (numberOf (take 4 (drop 8 c))))) ++ (bytesOf 2 (numberOf (take 2 (drop 12 c))) ++ cond b (bytesOf 2 (cond b (numberOf (take 2 (drop 14 c))) 0)) []) ≡ c
       pick true e =
           let long : length c ≡ 16 = omega (arith, length-new 2 version 0 (leb-true 5 version e), stop-length-5) in
-          let last : bytesOf 2 (number (take 2 (drop 14 c))) ≡ drop 14 c = plain-back 2 14 (omega arith) ∙ take-all 2 (drop 14 c) (rw length-drop (omega arith)) in
+          let last : bytesOf 2 (numberOf (take 2 (drop 14 c))) ≡ drop 14 c = plain-back 2 14 (omega arith) ∙ take-all 2 (drop 14 c) (rw length-drop (omega arith)) in
           rw last (point-back (omega arith))
       pick false e =
           let long : length c ≡ 14 = omega (arith, length-old 2 version 0 (leb-false 5 version e), stop-length-4) in

@@ -1,23 +1,24 @@
--- Laws of the writing call: which test decides, and what number 0 tells.
-use mathlib.Core.Path.{_≡_, refl, sym, _∙_}
-use mathlib.Core.Bool.{Bool, true, false, cond, _||_, true≢false}
+-- Laws of the writing calls: which test decides, and what number 0 tells.
+use mathlib.Core.Path.{_≡_, refl, sym, ap, _∙_}
+use mathlib.Core.Bool.{Bool, true, false, _||_, not}
 use mathlib.Core.List.{List}
-use Prim.Native.Nat.{ℕ, zero, suc, _≤_, _<_}
+use Prim.Native.Nat.{ℕ, zero, suc, _^_, _≤_, _<_}
 use native.Mathlib.Omega.{arith}
-use lib.Dec.{leb, ltb, eqb}
-use lib.IntN.{ℤ}
+use lib.Dec.{leb}
 use lib.ListN.{length}
-use borrow.Author.Tests.{lt-ltb, le-ltb, le-leb, lt-leb, eq-eqb, ne-eqb, ltb-false, eqb-true}
-use Rattle.base.specs.Refusal.{accepted}
-use Rattle.base.specs.Size.{stopCount}
-use Rattle.stop.specs.declared.Stop.{Stop}
-use Rattle.stop.specs.Lent.{lentStops, judgeLent}
+use borrow.Author.Tests.{le-leb, lt-leb, leb-true, not-true}
+use Rattle.base.specs.Outcome.{Outcome, gives, refuses, need, andThen, number, over}
+use Rattle.base.proofs.Outcome.{passed, refused, number-first}
 use Rattle.base.specs.Lists.{tabulate}
-use Rattle.path.specs.declared.PathWritten.{PathWritten}
+use Rattle.base.proofs.Lists.{length-tabulate}
+use Rattle.stop.specs.declared.Stop.{Stop}
+use Rattle.stop.specs.Lent.{LentStops, firstStops, judgeLent}
+use Rattle.stop.proofs.Lent.{judged-gives, length-first}
 use Rattle.path.specs.declared.PathWritten.the-variants.{Wrote, Refused}
-use Rattle.path.specs.Over.{over}
-use Rattle.path.specs.Path.{knownVersion, pathSize}
-use Rattle.path.specs.Written.{losesField, losesAny, elseNext, pathBytes, writeNumber, writtenNumber, writtenCount, SaysWritten, writeAs, writeCall}
+use Rattle.path.specs.Path.{knownVersion, pathSize, bodyAfterHead, stopIn, stopsIn}
+use Rattle.path.specs.Written.{losesField, losesAny, pathBytes, writeStops, writePath, rewriteAfterHead, said, BytesAreWritten}
+use Rattle.path.specs.Local.{judgeOutput}
+use Rattle.path.proofs.JudgeLaws.{JudgedBody, body-good}
 use Rattle.path.proofs.WrittenLaws.{length-written}
 
 -- ---- fields that a version lacks
@@ -37,80 +38,102 @@ any-some version (suc n) f (suc i) l h = rw (any-some version n (λ j. f (suc j)
     or-true true = refl
     or-true false = refl
 
--- ---- which test decides
+-- ---- the last two tests, 13 and 8
 
-module _ (version k : ℕ) (coords : List ℤ) (speeds blends : List ℕ) (room : ℕ) where
-  pub write-version : knownVersion version ≡ false → writeNumber version k coords speeds blends room ≡ 4
-  unfolding writeNumber
+-- by whether a field is lost, and by the size
+pub output-number : (version k room : ℕ) (ss : List Stop) → length ss ≡ 2 ^ k → number (judgeOutput (losesAny version ss) version k room) ≡ number (writeStops version k room ss)
+unfolding writeStops
+output-number version k room ss e = rw (length-written version k ss e) (pick (not (losesAny version ss)) (leb (pathSize version k) room))
+  where
+    pick : (a b : Bool) → number (need {A = Unit} a 13 (need b 8 (gives tt))) ≡ number (need a 13 (need b 8 (gives (pathBytes version k ss))))
+    pick true true = refl
+    pick true false = refl
+    pick false b = refl
+
+-- stops that are written: they lose nothing, and there is room
+pub record Written (version k room : ℕ) (ss : List Stop) : Type 0 where
+  pub kept : losesAny version ss ≡ false
+  pub enough : pathSize version k ≤ room
+  pub same : writeStops version k room ss ≡ gives (pathBytes version k ss)
+
+pub stops-written : (version k room : ℕ) (ss : List Stop) → length ss ≡ 2 ^ k → number (writeStops version k room ss) ≡ 0 → Written version k room ss
+unfolding writeStops
+stops-written version k room ss e z =
+    let first = passed (not (losesAny version ss)) 13 (need (leb (length (pathBytes version k ss)) room) 8 (gives (pathBytes version k ss))) (omega arith) z in
+    let second = passed (leb (length (pathBytes version k ss)) room) 8 (gives (pathBytes version k ss)) (omega arith) (first .goes-on) in
+    record { kept = not-true _ (first .holds); enough = rw (length-written version k ss e) at (leb-true (length (pathBytes version k ss)) room (second .holds)); same = first .same ∙ second .same }
+
+-- ---- from lent stops
+
+module _ (version k : ℕ) (lent : LentStops) (room : ℕ) where
+  pub write-version : knownVersion version ≡ false → writePath version k lent room ≡ refuses 4
+  unfolding writePath
   write-version e = rw e
 
   module _ (e : knownVersion version ≡ true) where
-    pub write-k : 10 < k → writeNumber version k coords speeds blends room ≡ 5
-    unfolding writeNumber
+    pub write-k : 10 < k → writePath version k lent room ≡ refuses 5
+    unfolding writePath
     write-k h = rw (e, lt-leb k 10 h)
 
     module _ (small : k ≤ 10) where
-      pub write-stops : (judgeLent (stopCount k) coords speeds blends ≡ 0 → ⊥) → writeNumber version k coords speeds blends room ≡ judgeLent (stopCount k) coords speeds blends
-      unfolding writeNumber elseNext
-      write-stops f = rw (e, le-leb k 10 small, ne-eqb _ _ f)
+      pub write-stops : (r : ℕ) → r ≡ number (judgeLent (2 ^ k) lent) → (r ≡ 0 → ⊥) → writePath version k lent room ≡ refuses r
+      unfolding writePath
+      write-stops r n f = rw (e, le-leb k 10 small, refused (judgeLent (2 ^ k) lent) r n f)
 
-      module _ (good : judgeLent (stopCount k) coords speeds blends ≡ 0) where
-        pub write-lost : losesAny version (lentStops (stopCount k) coords speeds blends) ≡ true → writeNumber version k coords speeds blends room ≡ 13
-        unfolding writeNumber elseNext
-        write-lost f = rw (e, le-leb k 10 small, good, f)
+      pub write-output : number (judgeLent (2 ^ k) lent) ≡ 0 → writePath version k lent room ≡ writeStops version k room (firstStops (2 ^ k) lent)
+      unfolding writePath
+      write-output z = rw (e, le-leb k 10 small, judged-gives (2 ^ k) lent z)
 
-        module _ (kept : losesAny version (lentStops (stopCount k) coords speeds blends) ≡ false) where
-          pub write-short : room < pathSize version k → writeNumber version k coords speeds blends room ≡ 8
-          unfolding writeNumber elseNext
-          write-short h = rw (e, le-leb k 10 small, good, kept, length-written, lt-ltb _ _ h)
+-- what is known of a writing whose number is 0: k is small enough, the path's size, that there is room, and what is written
+pub record Writable (k size room : ℕ) (o : Outcome (List ℕ)) (bytes : List ℕ) : Type 0 where
+  pub small : k ≤ 10
+  pub long : length bytes ≡ size
+  pub enough : size ≤ room
+  pub same : o ≡ gives bytes
 
-          pub write-good : pathSize version k ≤ room → writeNumber version k coords speeds blends room ≡ 0
-          unfolding writeNumber elseNext
-          write-good h = rw (e, le-leb k 10 small, good, kept, length-written, le-ltb _ _ h)
+pub writable : (version k : ℕ) (lent : LentStops) (room : ℕ) → number (writePath version k lent room) ≡ 0 → Writable k (pathSize version k) room (writePath version k lent room) (pathBytes version k (firstStops (2 ^ k) lent))
+unfolding writePath
+writable version k lent room z =
+    let first = passed (knownVersion version) 4 _ (omega arith) z in
+    let second = passed (leb k 10) 5 _ (omega arith) (first .goes-on) in
+    let judged = number-first (judgeLent (2 ^ k) lent) (writeStops version k room) (second .goes-on) in
+    let stops : judgeLent (2 ^ k) lent ≡ gives (firstStops (2 ^ k) lent) = judged-gives (2 ^ k) lent judged in
+    let w = stops-written version k room (firstStops (2 ^ k) lent) (length-first (2 ^ k) lent) (rw stops at (second .goes-on)) in
+    record { small = leb-true _ _ (second .holds); long = length-written version k _ (length-first (2 ^ k) lent); enough = w .enough; same = first .same ∙ second .same ∙ rw stops (w .same) }
 
--- ---- number 0
+-- ---- from path bytes
 
--- nothing refuses: the version is known, k is small enough, the stops are good and lose nothing, and there is room
-pub record Writable (version k : ℕ) (coords : List ℤ) (speeds blends : List ℕ) (room : ℕ) : Type 0 where
-  pub known : knownVersion version ≡ true
-  pub small : leb k 10 ≡ true
-  pub good : judgeLent (stopCount k) coords speeds blends ≡ 0
-  pub kept : losesAny version (lentStops (stopCount k) coords speeds blends) ≡ false
-  pub enough : pathSize version k ≤ room
+module _ (bytes : List ℕ) (version k wanted room : ℕ) where
+  pub rewrite-body : (r : ℕ) → r ≡ number (bodyAfterHead bytes version k) → (r ≡ 0 → ⊥) → rewriteAfterHead bytes version k wanted room ≡ refuses r
+  unfolding rewriteAfterHead
+  rewrite-body r n f = rw (refused (bodyAfterHead bytes version k) r n f)
 
-pub writable : (version k : ℕ) (coords : List ℤ) (speeds blends : List ℕ) (room : ℕ) → writeNumber version k coords speeds blends room ≡ 0 → Writable version k coords speeds blends room
-unfolding writeNumber elseNext
-writable version k coords speeds blends room =
-    by-tests (knownVersion version) refl (leb k 10) refl (eqb (judgeLent (stopCount k) coords speeds blends) 0) refl (losesAny version (lentStops (stopCount k) coords speeds blends)) refl (ltb room (length (pathBytes version k (lentStops (stopCount k) coords speeds blends)))) refl
-  where
-    by-tests : (a : Bool) → knownVersion version ≡ a → (b : Bool) → leb k 10 ≡ b → (d : Bool) → eqb (judgeLent (stopCount k) coords speeds blends) 0 ≡ d → (l : Bool) → losesAny version (lentStops (stopCount k) coords speeds blends) ≡ l → (r : Bool) → ltb room (length (pathBytes version k (lentStops (stopCount k) coords speeds blends))) ≡ r → cond a (cond b (cond d (cond l 13 (cond r 8 0)) (judgeLent (stopCount k) coords speeds blends)) 5) 4 ≡ 0 → Writable version k coords speeds blends room
-    by-tests false p b q d s l t r u z = absurd (omega arith)
-    by-tests true p false q d s l t r u z = absurd (omega arith)
-    by-tests true p true q false s l t r u z = absurd (true≢false (sym (eq-eqb _ _ z) ∙ s))
-    by-tests true p true q true s true t r u z = absurd (omega arith)
-    by-tests true p true q true s false t true u z = absurd (omega arith)
-    by-tests true p true q true s false t false u z =
-        record { known = p; small = q; good = eqb-true _ _ s; kept = t; enough = rw (length-written version k coords speeds blends) at (ltb-false room (length (pathBytes version k (lentStops (stopCount k) coords speeds blends))) u) }
+  module _ (z : number (bodyAfterHead bytes version k) ≡ 0) where
+    pub rewrite-version : knownVersion wanted ≡ false → rewriteAfterHead bytes version k wanted room ≡ refuses 4
+    unfolding rewriteAfterHead
+    rewrite-version e = rw (body-good bytes version k z .stops, e)
 
--- ---- the whole outcome
+    pub rewrite-output : knownVersion wanted ≡ true → rewriteAfterHead bytes version k wanted room ≡ writeStops wanted k room (stopsIn version (2 ^ k) bytes)
+    unfolding rewriteAfterHead
+    rewrite-output e = rw (body-good bytes version k z .stops, e)
 
-pub write-refused : (number : ℕ) (bytes out : List ℕ) → (number ≡ 0 → ⊥) → writeAs number bytes out ≡ record { answer = Refused number; out = out }
-unfolding writeAs
-write-refused number bytes out f = rw (ne-eqb _ _ f)
+  pub rewritable : number (rewriteAfterHead bytes version k wanted room) ≡ 0 → Writable k (pathSize wanted k) room (rewriteAfterHead bytes version k wanted room) (pathBytes wanted k (stopsIn version (2 ^ k) bytes))
+  unfolding rewriteAfterHead
+  rewritable z =
+      let ss = stopsIn version (2 ^ k) bytes in
+      let judged = number-first (bodyAfterHead bytes version k) (λ ss. need (knownVersion wanted) 4 (writeStops wanted k room ss)) z in
+      let body = body-good bytes version k judged in
+      let first = passed (knownVersion wanted) 4 (writeStops wanted k room ss) (omega arith) (rw (body .stops) at z) in
+      let many : length ss ≡ 2 ^ k = length-tabulate (2 ^ k) (λ i. stopIn version i bytes) in
+      let w = stops-written wanted k room ss many (first .goes-on) in
+      record { small = body .small; long = length-written wanted k ss many; enough = w .enough; same = rw (body .stops) (first .same ∙ w .same) }
 
-pub write-done : (number : ℕ) (bytes out : List ℕ) → number ≡ 0 → writeAs number bytes out ≡ record { answer = Wrote (length bytes); out = over bytes out }
-unfolding writeAs
-write-done number bytes out e = rw e
+-- ---- what the calls promise
 
-pub call-is : (version k : ℕ) (coords : List ℤ) (speeds blends out : List ℕ) → writeCall version k coords speeds blends out ≡ writeAs (writeNumber version k coords speeds blends (length out)) (pathBytes version k (lentStops (stopCount k) coords speeds blends)) out
-unfolding writeCall
-call-is version k coords speeds blends out = refl
+pub bytes-refused : (o : Outcome (List ℕ)) (before : List ℕ) (n : ℕ) → o ≡ refuses n → BytesAreWritten o before before (Refused n)
+unfolding said
+bytes-refused o before n e = record { said = rw e; left = rw e }
 
--- an answer that is as the definition says has its number and value
-pub says-written : (number : ℕ) (bytes out : List ℕ) (r : PathWritten) → r ≡ writeAs number bytes out .answer → SaysWritten r number bytes
-unfolding writeAs writtenNumber writtenCount
-says-written number bytes out r e = pick (eqb number accepted) refl
-  where
-    pick : (b : Bool) → eqb number accepted ≡ b → SaysWritten r number bytes
-    pick true t = record { number = rw (e, t) (sym (eqb-true _ _ t)); count = rw (e, t) }
-    pick false t = record { number = rw (e, t); count = rw (e, t) }
+pub bytes-done : (o : Outcome (List ℕ)) (bytes before afterwards : List ℕ) (n : ℕ) → o ≡ gives bytes → n ≡ length bytes → afterwards ≡ over bytes before → BytesAreWritten o before afterwards (Wrote n)
+unfolding said
+bytes-done o bytes before afterwards n e s l = record { said = rw (e, s); left = rw e l }

@@ -1,16 +1,16 @@
 -- Laws of what a path is written as: the parts of each record, and their lengths.
 use mathlib.Core.Path.{_≡_, refl, sym, _∙_}
-use mathlib.Core.Bool.{Bool, true, false, cond}
+use mathlib.Core.Bool.{Bool, true, false}
 use mathlib.Core.List.{List, [], _∷_, _++_, append-assoc, append-nil}
 use Prim.Native.Nat.{ℕ, _+_, _*_, _^_, _≤_}
 use native.Mathlib.Nat.{zero-mul, suc-mul, mul-le-mul-right}
 use native.Mathlib.Omega.{arith}
 use lib.Dec.{leb}
 use lib.IntN.{ℤ}
-use lib.Pow.{pow-mono}
 use lib.ListN.{length, length-append}
 use borrow.Author.Tests.{leb-true, leb-false}
-use Rattle.base.specs.Size.{stopCount}
+use Rattle.base.specs.Outcome.{over}
+use Rattle.base.proofs.Size.{pow-le-1024}
 use Rattle.records.specs.Field.{bytesOf}
 use Rattle.records.specs.Put.{put}
 use Rattle.records.specs.Record.{recordBytes, recordLength}
@@ -19,9 +19,6 @@ use Rattle.records.proofs.LengthLaws.{path-length, end-length}
 use Rattle.records.proofs.PutLaws.{put-front}
 use Rattle.records.proofs.RecordLaws.{length-recordBytes}
 use Rattle.stop.specs.declared.Stop.{Stop}
-use Rattle.stop.specs.Lent.{lentStops}
-use Rattle.stop.proofs.Lent.{length-lent}
-use Rattle.path.specs.Over.{over}
 use Rattle.path.specs.Path.{stopSize, pathSize}
 use Rattle.path.specs.Written.{pointBytes, paceBytes, stopContent, stopBytes, stopsBytes, headBytes, pathBytes}
 use Rattle.path.proofs.StopFields.{explicit-content, pace-old, pace-new}
@@ -68,26 +65,17 @@ unfolding pathBytes
 length-pathBytes version k ss =
     rw (length-append, length-append, length-headBytes, length-stopsBytes, length-recordBytes 3 []) (omega arith)
 
-pub size-is : (version k : ℕ) → pathSize version k ≡ 12 + stopCount k * stopSize version
+pub size-is : (version k : ℕ) → pathSize version k ≡ 12 + 2 ^ k * stopSize version
 unfolding pathSize
 size-is version k = refl
 
-pub length-written : (version k : ℕ) (coords : List ℤ) (speeds blends : List ℕ) → length (pathBytes version k (lentStops (stopCount k) coords speeds blends)) ≡ pathSize version k
-length-written version k coords speeds blends =
-    length-pathBytes version k (lentStops (stopCount k) coords speeds blends) ∙ rw (length-lent, size-is)
+pub length-written : (version k : ℕ) (ss : List Stop) → length ss ≡ 2 ^ k → length (pathBytes version k ss) ≡ pathSize version k
+length-written version k ss e = length-pathBytes version k ss ∙ rw (e, size-is)
 
 -- a path has at most 1,024 stops
-pub count-range : (k : ℕ) → stopCount k ≤ 1024
-unfolding stopCount
-count-range k = pick (leb k 10) refl
-  where
-    pick : (b : Bool) → leb k 10 ≡ b → cond b (2 ^ k) 0 ≤ 1024
-    pick true e = pow-mono {j = 10} (leb-true k 10 e)
-    pick false e = omega arith
-
-pub bytes-range : (version k : ℕ) → stopCount k * stopSize version ≤ 20480
-bytes-range version k =
-    let a : stopCount k * stopSize version ≤ 1024 * stopSize version = mul-le-mul-right (stopSize version) (count-range k) in
+pub bytes-range : (version k : ℕ) → k ≤ 10 → 2 ^ k * stopSize version ≤ 20480
+bytes-range version k h =
+    let a : 2 ^ k * stopSize version ≤ 1024 * stopSize version = mul-le-mul-right (stopSize version) (pow-le-1024 k h) in
     omega (arith, size-range version)
 
 -- ---- parts
@@ -109,5 +97,4 @@ stop-parts version s = rw (length-content version s) (content-parts version s (b
 
 -- what is put at the front is written over it
 pub put-over : (s v : List ℕ) → length v ≤ length s → put s 0 v ≡ over v s
-unfolding over
 put-over s v h = put-front s v h

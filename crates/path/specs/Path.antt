@@ -1,15 +1,17 @@
 -- What path bytes mean: 'A path is kind 1, n of kind 2, kind 3.'
 use mathlib.Core.Bool.{Bool, cond, _&&_, _||_}
 use mathlib.Core.List.{List, [], _∷_}
-use Prim.Native.Nat.{ℕ, zero, suc, _+_, _*_}
+use Prim.Native.Nat.{ℕ, zero, suc, _+_, _*_, _^_}
 use lib.Dec.{leb, eqb}
 use lib.ListN.{length, take, drop, getD}
-use Rattle.base.specs.Refusal.{accepted, wrongVersion, wrongK, outOfRange, trailingBytes, wrongSize}
-use Rattle.base.specs.Size.{maxK, stopCount}
-use Rattle.records.specs.Field.{number, signed, unsigned, readFields}
-use Rattle.records.specs.Record.{Taken, taken, refused, takeRecord, recordLength, stopFields, pathKind, stopKind, endKind}
+use Rattle.base.specs.Refusal.{wrongVersion, wrongK, trailingBytes}
+use Rattle.base.specs.Outcome.{Outcome, gives, need, andThen, giving}
+use Rattle.base.specs.Size.{maxK}
+use Rattle.base.specs.Lists.{tabulate}
+use Rattle.records.specs.Field.{numberOf, signed, unsigned, readFields}
+use Rattle.records.specs.Record.{Taken, takeRecord, recordLength, stopFields, pathKind, stopKind, endKind}
 use Rattle.stop.specs.declared.Stop.{Stop}
-use Rattle.stop.specs.Stop.{inRange, judgeStop, coordinate}
+use Rattle.stop.specs.Stop.{judgeStop, coordinate, zeroStop}
 
 -- 'version not 4 or 5'
 unfoldable pub knownVersion : ℕ → Bool
@@ -31,79 +33,78 @@ stopOf version content = stopOfValues (readFields (stopFields version) content)
 
 -- ---- the head
 
--- version, k and the bytes after the head, or the refusal's number
-pub data HeadRead : Type 0 where
-  head : (version k : ℕ) (rest : List ℕ) → HeadRead
-  noHead : (number : ℕ) → HeadRead
+-- version, k and the bytes after the head
+pub record PathHead : Type 0 where
+  pub version : ℕ
+  pub k : ℕ
+  pub rest : List ℕ
+
+abbrev pub pathHead : (version k : ℕ) (rest : List ℕ) → PathHead
+pathHead version k rest = record { version = version; k = k; rest = rest }
 
 -- 'In the head: version, k'
-unfoldable pub headFields : (highest version k : ℕ) (rest : List ℕ) → HeadRead
+unfoldable pub headFields : (highest version k : ℕ) (rest : List ℕ) → Outcome PathHead
 headFields highest version k rest =
-    cond (knownVersion version && leb version highest)
-    (cond (leb k maxK) (head version k rest) (noHead wrongK))
-    (noHead wrongVersion)
+    need (knownVersion version && leb version highest) wrongVersion
+    (need (leb k maxK) wrongK
+    (gives (pathHead version k rest)))
 
--- the fields of a whole head, or the refusal of its record
-unfoldable pub headOf : (highest : ℕ) → Taken → HeadRead
-headOf highest (taken content rest) = headFields highest (number (take 2 content)) (number (take 2 (drop 2 content))) rest
-headOf highest (refused n) = noHead n
+-- the fields of a whole head
+unfoldable pub headOf : (highest : ℕ) → Taken → Outcome PathHead
+headOf highest t = headFields highest (numberOf (take 2 (t .content))) (numberOf (take 2 (drop 2 (t .content)))) (t .rest)
 
 -- 'Reading: highest known version first', then the head's record
-unfoldable pub readHead : (bytes : List ℕ) (highest : ℕ) → HeadRead
+unfoldable pub readHead : (bytes : List ℕ) (highest : ℕ) → Outcome PathHead
 readHead bytes highest =
-    cond (knownVersion highest)
-    (headOf highest (takeRecord pathKind (recordLength pathKind highest 0) bytes))
-    (noHead wrongVersion)
+    need (knownVersion highest) wrongVersion
+    (andThen (takeRecord pathKind (recordLength pathKind highest 0) bytes) (headOf highest))
 
 -- ---- the stops and the end
 
--- the stops, or the refusal's number
-pub data BodyRead : Type 0 where
-  stops : List Stop → BodyRead
-  noBody : (number : ℕ) → BodyRead
-
--- a stop before those of the rest
-unfoldable pub andStop : Stop → BodyRead → BodyRead
-andStop s (stops ss) = stops (s ∷ ss)
-andStop s (noBody n) = noBody n
-
--- a stop's record and then the rest: 'a stop's field out of range' is found before anything after it
-unfoldable pub stopThen : (version : ℕ) (next : List ℕ → BodyRead) → Taken → BodyRead
-stopThen version next (taken content rest) =
-    cond (inRange (stopOf version content)) (andStop (stopOf version content) (next rest)) (noBody outOfRange)
-stopThen version next (refused n) = noBody n
+-- a stop's record, whose stop is judged, and then the rest: 'a stop's field out of range' is found before anything after it
+unfoldable pub stopThen : (version : ℕ) (next : List ℕ → Outcome (List Stop)) → Taken → Outcome (List Stop)
+stopThen version next t = andThen (judgeStop (stopOf version (t .content))) (λ s. giving (λ ss. s ∷ ss) (next (t .rest)))
 
 -- the end record, and 'bytes after the end record'
-unfoldable pub endOf : Taken → BodyRead
-endOf (taken content rest) = cond (eqb (length rest) 0) (stops []) (noBody trailingBytes)
-endOf (refused n) = noBody n
+unfoldable pub endOf : Taken → Outcome (List Stop)
+endOf t = need (eqb (length (t .rest)) 0) trailingBytes (gives [])
 
 -- so many stops, and the end
-unfoldable pub readBody : (version count : ℕ) (s : List ℕ) → BodyRead
-readBody version zero s = endOf (takeRecord endKind (recordLength endKind version 0) s)
+unfoldable pub readBody : (version count : ℕ) (s : List ℕ) → Outcome (List Stop)
+readBody version zero s = andThen (takeRecord endKind (recordLength endKind version 0) s) endOf
 readBody version (suc n) s =
-    stopThen version (readBody version n) (takeRecord stopKind (recordLength stopKind version 0) s)
+    andThen (takeRecord stopKind (recordLength stopKind version 0) s) (stopThen version (readBody version n))
 
 -- ---- the whole path
 
--- version, k and the stops, or the refusal's number
-pub data PathMeaning : Type 0 where
-  path : (version k : ℕ) (ss : List Stop) → PathMeaning
-  noPath : (number : ℕ) → PathMeaning
+-- version, k and the stops
+pub record Path : Type 0 where
+  pub version : ℕ
+  pub k : ℕ
+  pub stops : List Stop
 
--- what the head and the body mean together
-unfoldable pub withBody : (version k : ℕ) → BodyRead → PathMeaning
-withBody version k (stops ss) = path version k ss
-withBody version k (noBody n) = noPath n
+abbrev pub path : (version k : ℕ) (stops : List Stop) → Path
+path version k stops = record { version = version; k = k; stops = stops }
 
--- after the head 'then lent lengths (8)': the caller's own test of k, its limit and its lent lengths
-unfoldable pub readOn : (lent : ℕ → Bool) → HeadRead → PathMeaning
-readOn lent (head version k rest) = cond (lent k) (withBody version k (readBody version (stopCount k) rest)) (noPath wrongSize)
-readOn lent (noHead n) = noPath n
+-- after the head 'then lent lengths (8)': the caller's own test of k, its limit and its lent lengths; then the stops and the end
+unfoldable pub readOn : (test : ℕ → Outcome Unit) → PathHead → Outcome Path
+readOn test h =
+    andThen (test (h .k)) (λ passed. giving (path (h .version) (h .k)) (readBody (h .version) (2 ^ h .k) (h .rest)))
 
--- what path bytes mean to a caller that knows versions up to `highest` and can take the sizes k that `lent` says
-unfoldable pub readPath : (bytes : List ℕ) (highest : ℕ) (lent : ℕ → Bool) → PathMeaning
-readPath bytes highest lent = readOn lent (readHead bytes highest)
+-- what path bytes mean to a caller that knows versions up to `highest` and has a test of k of its own
+unfoldable pub readPath : (bytes : List ℕ) (highest : ℕ) (test : ℕ → Outcome Unit) → Outcome Path
+readPath bytes highest test = andThen (readHead bytes highest) (readOn test)
+
+-- a caller that takes every k
+abbrev pub anySize : ℕ → Outcome Unit
+anySize k = gives tt
+
+-- the stops after the head of a path of a version and k, for a caller that has read the head; the version and k are tested again
+unfoldable pub bodyAfterHead : (bytes : List ℕ) (version k : ℕ) → Outcome (List Stop)
+bodyAfterHead bytes version k =
+    need (knownVersion version) wrongVersion
+    (need (leb k maxK) wrongK
+    (readBody version (2 ^ k) (drop 8 bytes)))
 
 -- ---- places in the bytes
 
@@ -117,24 +118,18 @@ stopPlace version i = 8 + i * stopSize version
 
 -- the bytes that a path of 2^k stops takes: the head's 8, the stops, the end's 4
 unfoldable pub pathSize : (version k : ℕ) → ℕ
-pathSize version k = 12 + stopCount k * stopSize version
+pathSize version k = 12 + 2 ^ k * stopSize version
 
--- stop i of path bytes, whatever they are: a byte that is not there counts as 0
+-- stop i of path bytes, whatever they are: where its record does not lie within them, the stop of zeros
 unfoldable pub stopIn : (version i : ℕ) (bytes : List ℕ) → Stop
-stopIn version i bytes = stopOf version (drop (4 + stopPlace version i) bytes)
+stopIn version i bytes =
+    cond (leb (stopPlace version i + stopSize version) (length bytes)) (stopOf version (drop (4 + stopPlace version i) bytes)) zeroStop
 
--- ---- numbers
+-- the first n stops of path bytes, whatever they are
+abbrev pub stopsIn : (version n : ℕ) (bytes : List ℕ) → List Stop
+stopsIn version n bytes = tabulate n (λ i. stopIn version i bytes)
 
--- an accepted body's number is 0
-unfoldable pub bodyNumber : BodyRead → ℕ
-bodyNumber (stops ss) = accepted
-bodyNumber (noBody n) = n
-
--- the number of a stop's record that was looked for: its refusal, or the judgement of its fields
-unfoldable pub stopVerdict : (version : ℕ) → Taken → ℕ
-stopVerdict version (taken content rest) = judgeStop (stopOf version content)
-stopVerdict version (refused n) = n
-
--- the number of a stop's record at the front of bytes
-unfoldable pub stopNumber : (version : ℕ) (s : List ℕ) → ℕ
-stopNumber version s = stopVerdict version (takeRecord stopKind (recordLength stopKind version 0) s)
+-- the stop of a record at the front of bytes, judged
+unfoldable pub readStop : (version : ℕ) (s : List ℕ) → Outcome Stop
+readStop version s =
+    andThen (takeRecord stopKind (recordLength stopKind version 0) s) (λ t. judgeStop (stopOf version (t .content)))

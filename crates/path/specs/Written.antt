@@ -1,21 +1,22 @@
--- What bytes a path is written as, and what the writing call answers: 'Writing a path: version, k, stops lent (8), 6 in stop order, 13, output (8).'
+-- What bytes a path is written as, and what the writing calls promise.
 use mathlib.Core.Path.{_≡_}
-use mathlib.Core.Bool.{Bool, true, false, cond, _&&_, _||_, not}
+use mathlib.Core.Bool.{Bool, true, false, _&&_, _||_, not}
 use mathlib.Core.List.{List, [], _∷_, _++_}
-use Prim.Native.Nat.{ℕ}
-use lib.Dec.{leb, ltb, eqb}
+use Prim.Native.Nat.{ℕ, _^_}
+use lib.Dec.{leb, eqb}
 use lib.IntN.{ℤ, pos}
 use lib.ListN.{length, drop, getD}
-use Rattle.base.specs.Refusal.{accepted, wrongVersion, wrongK, wrongSize, lostBlend}
-use Rattle.base.specs.Size.{maxK, stopCount}
+use Rattle.base.specs.Refusal.{wrongVersion, wrongK, wrongSize, lostBlend}
+use Rattle.base.specs.Outcome.{Outcome, gives, refuses, need, andThen, giving, after}
+use Rattle.base.specs.Buffer.{Unsigned, Signed, atEntry, atExit}
+use Rattle.base.specs.Size.{maxK}
 use Rattle.records.specs.Field.{bytesOf, unsigned, writeFields}
 use Rattle.records.specs.Record.{stopFields, recordBytes, pathKind, stopKind, endKind}
 use Rattle.stop.specs.declared.Stop.{Stop}
-use Rattle.stop.specs.Lent.{lentStops, judgeLent}
+use Rattle.stop.specs.Lent.{LentStops, lentStops, judgeLent}
 use Rattle.path.specs.declared.PathWritten.{PathWritten}
 use Rattle.path.specs.declared.PathWritten.the-variants.{Wrote, Refused}
-use Rattle.path.specs.Over.{over}
-use Rattle.path.specs.Path.{knownVersion, stopValues}
+use Rattle.path.specs.Path.{knownVersion, stopValues, bodyAfterHead}
 
 -- a stop's content: the fields of the version
 unfoldable pub stopContent : (version : ℕ) → Stop → List ℕ
@@ -52,54 +53,44 @@ unfoldable pub losesAny : (version : ℕ) → List Stop → Bool
 losesAny version [] = false
 losesAny version (s ∷ ss) = losesField version s || losesAny version ss
 
--- a number that refuses, or what comes after it
-unfoldable pub elseNext : (number next : ℕ) → ℕ
-elseNext number next = cond (eqb number accepted) next number
+-- the path of 2^k stops in a version, to be written to an output of `room` bytes: 13, then 8
+unfoldable pub writeStops : (version k room : ℕ) → List Stop → Outcome (List ℕ)
+writeStops version k room ss =
+    need (not (losesAny version ss)) lostBlend
+    (need (leb (length (pathBytes version k ss)) room) wrongSize
+    (gives (pathBytes version k ss)))
 
--- the number of writing stops in a version to so many places
-unfoldable pub writeNumber : (version k : ℕ) (coords : List ℤ) (speeds blends : List ℕ) (room : ℕ) → ℕ
-writeNumber version k coords speeds blends room =
-    let ss = lentStops (stopCount k) coords speeds blends in
-    cond (knownVersion version)
-    (cond (leb k maxK)
-    (elseNext (judgeLent (stopCount k) coords speeds blends)
-    (cond (losesAny version ss) lostBlend (cond (ltb room (length (pathBytes version k ss))) wrongSize accepted)))
-    wrongK)
-    wrongVersion
+-- 'Writing a path: version, k, stops lent (8), 6 in stop order, 13, output (8)'
+unfoldable pub writePath : (version k : ℕ) (lent : LentStops) (room : ℕ) → Outcome (List ℕ)
+writePath version k lent room =
+    need (knownVersion version) wrongVersion
+    (need (leb k maxK) wrongK
+    (andThen (judgeLent (2 ^ k) lent) (writeStops version k room)))
 
--- document 01's number and value of each case of an answer: the number,
-unfoldable pub writtenNumber : PathWritten → ℕ
-writtenNumber (Wrote n) = accepted
-writtenNumber (Refused n) = n
+-- path bytes written in another version, for a caller that has read their head: the stops and the end are read first; 'the version to be
+-- written is tested after that'; then 13, and 'a rewritten path's output is tested last'
+unfoldable pub rewriteAfterHead : (bytes : List ℕ) (version k wanted room : ℕ) → Outcome (List ℕ)
+rewriteAfterHead bytes version k wanted room =
+    andThen (bodyAfterHead bytes version k) (λ ss. need (knownVersion wanted) wrongVersion (writeStops wanted k room ss))
 
--- and the count of bytes written
-unfoldable pub writtenCount : PathWritten → ℕ
-writtenCount (Wrote n) = n
-writtenCount (Refused n) = 0
+-- what an answer says: the count of bytes written
+unfoldable pub said : PathWritten → Outcome ℕ
+said (Wrote n) = gives n
+said (Refused n) = refuses n
 
--- an answer says the number of writing, and on success the count of the bytes
-pub record SaysWritten (r : PathWritten) (verdict : ℕ) (bytes : List ℕ) : Type 0 where
-  pub number : writtenNumber r ≡ verdict
-  pub count : writtenCount r ≡ cond (eqb verdict accepted) (length bytes) 0
+-- the promise of a call that writes the bytes of an outcome: the answer, and the output before and after
+pub record BytesAreWritten (o : Outcome (List ℕ)) (before afterwards : List ℕ) (r : PathWritten) : Type 0 where
+  pub said : said r ≡ giving length o
+  pub left : afterwards ≡ after o (λ bytes. bytes) before
 
--- what a writing call answers and leaves in the output
-pub record WriteCall : Type 0 where
-  pub answer : PathWritten
-  pub out : List ℕ
+-- the same of the parameters of each call
+abbrev pub WritesPath : ℕ → ℕ → Signed → Unsigned → Unsigned → Unsigned → PathWritten → Type 0
+WritesPath version k coords speeds blends out r =
+    BytesAreWritten (writePath version k (lentStops coords speeds blends) (length (atEntry out))) (atEntry out) (atExit out) r
 
--- success writes the bytes over the output's front; a refusal leaves it
-unfoldable pub writeAs : (number : ℕ) (bytes out : List ℕ) → WriteCall
-writeAs number bytes out =
-    cond (eqb number accepted)
-    (record { answer = Wrote (length bytes); out = over bytes out })
-    (record { answer = Refused number; out = out })
-
--- writing the first 2^k lent stops
-unfoldable pub writeCall : (version k : ℕ) (coords : List ℤ) (speeds blends : List ℕ) (out : List ℕ) → WriteCall
-writeCall version k coords speeds blends out =
-    writeAs (writeNumber version k coords speeds blends (length out))
-    (pathBytes version k (lentStops (stopCount k) coords speeds blends))
-    out
+abbrev pub RewritesPath : Unsigned → ℕ → ℕ → ℕ → Unsigned → PathWritten → Type 0
+RewritesPath bytes version k wanted out r =
+    BytesAreWritten (rewriteAfterHead (atEntry bytes) version k wanted (length (atEntry out))) (atEntry out) (atExit out) r
 
 -- ---- the parts of a stop's content, as they are written one after the other
 

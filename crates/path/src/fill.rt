@@ -7,8 +7,8 @@ ghost use lib.ListN.{length, getD, set};
 ghost use lib.IntN.{pos};
 ghost use Rattle.stop.specs.Stop.{coordinate};
 ghost use Rattle.stop.specs.Lent.{coordsOf, speedsOf, blendsOf};
-ghost use Rattle.path.specs.Over.{over};
-ghost use Rattle.path.specs.Reading.{stopsIn};
+ghost use Rattle.base.specs.Outcome.{over};
+ghost use Rattle.path.specs.Path.{stopsIn};
 
 // Stores a point as the three coordinates of stop i.
 fn store_point(coords: &mut [i32], i: usize, point: [i32; 3])

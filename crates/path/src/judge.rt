@@ -1,5 +1,8 @@
-// Path bytes judged, and the stops of judged bytes. Every record of a version has one size, so a stop's place follows from its number.
+// Path bytes judged, and the stops of judged bytes. Every record of a version has one size, so a stop's place follows from its number, and
+// judged bytes can be read at any stop.
 use crate::Head;
+use crate::bytes::stop_in;
+use base::MAX_K;
 use base::TRAILING_BYTES;
 use base::WRONG_K;
 use base::WRONG_VERSION;
@@ -10,26 +13,37 @@ use records::STOP;
 use records::field16;
 use records::judge_record;
 use records::record_length;
-use records::signed_field;
 use stop::Stop;
 ghost use mathlib.Core.Path.{_≡_};
 ghost use Prim.Native.Nat.{_+_, _*_, min};
 ghost use lib.ListN.{length, drop};
-ghost use Rattle.base.specs.Size.{stopCount};
-ghost use Rattle.records.specs.Record.{recordLength, takeRecord, takenNumber};
-ghost use Rattle.path.specs.Path.{knownVersion, noHead, readHead, readBody, bodyNumber, stopNumber, stopPlace, stopSize, stopIn, stopOf};
-ghost use Rattle.path.specs.Reading.{headAnswer};
+ghost use Rattle.base.specs.Outcome.{refuses, number};
+ghost use Rattle.base.specs.Buffer.{atEntry};
+ghost use Rattle.records.specs.Record.{recordLength, takeRecord};
+ghost use Rattle.path.specs.Path.{knownVersion, readHead, readBody, readStop, bodyAfterHead, stopPlace, stopSize, stopIn};
+ghost use Rattle.stop.specs.Stop.{zeroStop};
+ghost use Rattle.path.specs.Reading.{headGiven};
+
+// The versions that are known.
+const OLDEST: u16 = 4;
+
+const NEWEST: u16 = 5;
+
+// The bytes of a head and of an end record.
+pub const HEAD_SIZE: usize = 8;
+
+pub const END_SIZE: usize = 4;
 
 // Whether a version is 4 or 5.
 pub fn known_version(version: u16) -> bool
     ensures { λ r. ⌜ r ≡ knownVersion version ⌝ }
 {
-    version == 4 || version == 5
+    version == OLDEST || version == NEWEST
 }
 
 // The answer of a refused head.
-fn no_head(refused: u16) -> Head
-    ensures { λ r. ⌜ r ≡ headAnswer (noHead refused) ⌝ }
+pub fn no_head(refused: u16) -> Head
+    ensures { λ r. ⌜ r ≡ headGiven (refuses refused) ⌝ }
 {
     Head {
         refused,
@@ -40,7 +54,7 @@ fn no_head(refused: u16) -> Head
 
 // The head of a path, for a caller that knows versions up to `highest`.
 pub fn judge_head(bytes: &[u8], highest: u16) -> Head
-    ensures { λ r. ⌜ r ≡ headAnswer (readHead (now (bytes .entry)) highest) ⌝ }
+    ensures { λ r. ⌜ r ≡ headGiven (readHead (atEntry bytes) highest) ⌝ }
 {
     if !known_version(highest) {
         return no_head(WRONG_VERSION);
@@ -57,7 +71,7 @@ pub fn judge_head(bytes: &[u8], highest: u16) -> Head
     if highest < version {
         return no_head(WRONG_VERSION);
     }
-    if 10 < k {
+    if MAX_K < k {
         return no_head(WRONG_K);
     }
     Head {
@@ -77,89 +91,80 @@ pub fn stop_size(version: u16) -> usize
 // Where the record of stop i begins. A place past the end of the bytes is as good as any other there; a stop number of 2^59 or more, whose
 // place would not fit, always lies there.
 fn stop_place(bytes: &[u8], version: u16, i: usize) -> usize
-    ensures { λ r. ⌜ r ≡ min (stopPlace version i) (8 + length (now (bytes .entry))) ⌝ }
+    ensures { λ r. ⌜ r ≡ min (stopPlace version i) (8 + length (atEntry bytes)) ⌝ }
 {
-    let past = 8 + bytes.len();
+    let past = HEAD_SIZE + bytes.len();
     if 0x0800_0000_0000_0000 <= i {
         return past;
     }
-    let at = 8 + i * stop_size(version);
+    let at = HEAD_SIZE + i * stop_size(version);
     if past < at {
         return past;
     }
     at
 }
 
-// The stop whose content begins at `at`.
-fn stop_of(bytes: &[u8], version: u16, at: usize) -> Stop
-    ensures { λ r. ⌜ r ≡ stopOf version (drop at (now (bytes .entry))) ⌝ }
+// The stop of zeros, which stands for one that is not there.
+fn no_stop() -> Stop
+    ensures { λ r. ⌜ r ≡ zeroStop ⌝ }
 {
-    let content = records::after(bytes, at);
-    let point = [
-        signed_field(content, 0),
-        signed_field(content, 4),
-        signed_field(content, 8),
-    ];
-    let speed = field16(content, 12);
-    if version < 5 {
-        return Stop {
-            at: point,
-            speed,
-            blend: 0,
-        };
-    }
     Stop {
-        at: point,
-        speed,
-        blend: field16(content, 14),
+        at: [0, 0, 0],
+        speed: 0,
+        blend: 0,
     }
 }
 
-// Stop i of path bytes that were judged; in others a byte that is not there counts as 0.
+// Stop i of path bytes; of bytes that were not judged, zeros where its record does not lie within them.
 pub fn stop_from(bytes: &[u8], version: u16, i: usize) -> Stop
-    ensures { λ r. ⌜ r ≡ stopIn version i (now (bytes .entry)) ⌝ }
+    ensures { λ r. ⌜ r ≡ stopIn version i (atEntry bytes) ⌝ }
 {
-    stop_of(bytes, version, 4 + stop_place(bytes, version, i))
+    let at = stop_place(bytes, version, i);
+    if bytes.len() < at + stop_size(version) {
+        return no_stop();
+    }
+    stop_in(bytes, version, at + 4)
 }
 
 // 0, or the refusal of a record of a kind at the place of stop i.
 fn judge_place(bytes: &[u8], version: u16, i: usize, kind: u16) -> u16
-    ensures { λ r. ⌜ r ≡ takenNumber (takeRecord kind (recordLength kind version 0) (drop (stopPlace version i) (now (bytes .entry)))) ⌝ }
+    ensures { λ r. ⌜ r ≡ number (takeRecord kind (recordLength kind version 0) (drop (stopPlace version i) (atEntry bytes))) ⌝ }
 {
     let at = stop_place(bytes, version, i);
     judge_record(bytes, at, kind, record_length(kind, version))
 }
 
-// 0, or the refusal of the record of stop i.
+// 0, or the refusal of the record of stop i: its own, or that of its fields.
 pub fn judge_stop(bytes: &[u8], version: u16, i: usize) -> u16
-    ensures { λ r. ⌜ r ≡ stopNumber version (drop (stopPlace version i) (now (bytes .entry))) ⌝ }
+    ensures { λ r. ⌜ r ≡ number (readStop version (drop (stopPlace version i) (atEntry bytes))) ⌝ }
 {
     let refused = judge_place(bytes, version, i, STOP);
     if refused != 0 {
         return refused;
     }
-    stop_from(bytes, version, i).judge()
+    let s = stop_from(bytes, version, i);
+    let at = s.at;
+    Stop::new(at, s.speed, s.blend).refused
 }
 
 // 0, or the refusal of the end of a path of `count` stops.
 pub fn judge_end(bytes: &[u8], version: u16, count: usize) -> u16
-    ensures { λ r. ⌜ r ≡ bodyNumber (readBody version 0 (drop (stopPlace version count) (now (bytes .entry)))) ⌝ }
+    ensures { λ r. ⌜ r ≡ number (readBody version 0 (drop (stopPlace version count) (atEntry bytes))) ⌝ }
 {
     let refused = judge_place(bytes, version, count, END);
     if refused != 0 {
         return refused;
     }
-    if stop_place(bytes, version, count) + 4 < bytes.len() {
+    if stop_place(bytes, version, count) + END_SIZE < bytes.len() {
         return TRAILING_BYTES;
     }
     0
 }
 
-// 0, or the first refusal after the head of a path of 2^k stops.
-pub fn judge_body(bytes: &[u8], version: u16, k: u16) -> u16
-    ensures { λ r. ⌜ r ≡ bodyNumber (readBody version (stopCount k) (drop 8 (now (bytes .entry)))) ⌝ }
+// 0, or the first refusal of `count` stops and the end.
+fn judge_stops(bytes: &[u8], version: u16, count: usize) -> u16
+    ensures { λ r. ⌜ r ≡ number (readBody version count (drop 8 (atEntry bytes))) ⌝ }
 {
-    let count = stop_count(k);
     for i in 0..count {
         let refused = judge_stop(bytes, version, i);
         if refused != 0 {
@@ -167,4 +172,17 @@ pub fn judge_body(bytes: &[u8], version: u16, k: u16) -> u16
         }
     }
     judge_end(bytes, version, count)
+}
+
+// 0, or the first refusal after the head of a path of 2^k stops; the version and k that the head gave are tested again.
+pub fn judge_body(bytes: &[u8], version: u16, k: u16) -> u16
+    ensures { λ r. ⌜ r ≡ number (bodyAfterHead (atEntry bytes) version k) ⌝ }
+{
+    if !known_version(version) {
+        return WRONG_VERSION;
+    }
+    if MAX_K < k {
+        return WRONG_K;
+    }
+    judge_stops(bytes, version, stop_count(k))
 }

@@ -2,28 +2,25 @@
 //
 // No public function has a `requires`. What path bytes mean is `readPath` of `specs/Path.antt`; what a path is written as is `pathBytes`
 // of `specs/Written.antt`.
+mod bytes;
 mod fill;
 mod judge;
+mod output;
 mod put;
 mod read;
+mod rewrite;
 mod store;
 mod write;
 
+pub use judge::HEAD_SIZE;
 pub use judge::judge_body;
 pub use judge::judge_end;
 pub use judge::judge_head;
 pub use judge::judge_stop;
-pub use judge::known_version;
 pub use judge::stop_from;
 pub use judge::stop_size;
-pub use put::put_end;
-pub use put::put_head;
-pub use put::put_stop;
-pub use read::fill_path;
 pub use read::read_path;
-pub use read::stops_fit;
-pub use write::judge_write;
-pub use write::path_size;
+pub use rewrite::rewrite_path;
 pub use write::write_path;
 
 // A judged head: `refused` 0, the version and k, or the refusal's number and zeros.

@@ -1,47 +1,48 @@
 // Paths read into lent buffers.
+use crate::Head;
 use crate::PathRead;
 use crate::fill::store_stops;
 use crate::judge::judge_body;
 use crate::judge::judge_head;
+use crate::judge::no_head;
 use base::WRONG_SIZE;
 use base::stop_count;
 ghost use mathlib.Core.Path.{_≡_};
-ghost use Rattle.base.specs.Size.{stopCount};
-ghost use Rattle.stop.specs.Lent.{coordsOf, speedsOf, blendsOf, stopsFit};
-ghost use Rattle.path.specs.Path.{readPath};
-ghost use Rattle.path.specs.Reading.{stopsIn, filled, readCall, placesFit, SaysRead};
+ghost use Rattle.base.specs.Buffer.{atEntry};
+ghost use Rattle.stop.specs.Lent.{lentStops, stopsFit};
+ghost use Rattle.path.specs.Reading.{pathGiven, readInto, ReadsPath};
 
-// Whether buffers of these lengths have places for `count` stops.
-pub fn stops_fit(count: usize, coords: usize, speeds: usize, blends: usize) -> bool
-    ensures { λ r. ⌜ r ≡ placesFit count coords speeds blends ⌝ }
+// Whether the buffers have places for `count` stops.
+fn stops_fit(count: usize, coords: &[i32], speeds: &[u16], blends: &[u16]) -> bool
+    ensures { λ r. ⌜ r ≡ stopsFit count (lentStops coords speeds blends) ⌝ }
 {
-    if coords / 3 < count {
+    if coords.len() / 3 < count {
         return false;
     }
-    if speeds < count {
+    if speeds.len() < count {
         return false;
     }
-    count <= blends
+    count <= blends.len()
 }
 
-// Writes the first 2^k stops of path bytes that were judged to the buffers, or nothing where one of them is too short.
-pub fn fill_path(
-    bytes: &[u8],
-    version: u16,
-    k: u16,
-    coords: &mut [i32],
-    speeds: &mut [u16],
-    blends: &mut [u16],
-)
-    ensures { λ r. ⌜ now (coords .exit) ≡ filled (stopsFit (stopCount k) (now (coords .entry)) (now (speeds .entry)) (now (blends .entry))) (coordsOf (stopsIn version (stopCount k) (now (bytes .entry)))) (now (coords .entry)) ⌝ }
-    ensures { λ r. ⌜ now (speeds .exit) ≡ filled (stopsFit (stopCount k) (now (coords .entry)) (now (speeds .entry)) (now (blends .entry))) (speedsOf (stopsIn version (stopCount k) (now (bytes .entry)))) (now (speeds .entry)) ⌝ }
-    ensures { λ r. ⌜ now (blends .exit) ≡ filled (stopsFit (stopCount k) (now (coords .entry)) (now (speeds .entry)) (now (blends .entry))) (blendsOf (stopsIn version (stopCount k) (now (bytes .entry)))) (now (blends .entry)) ⌝ }
+// The version and k of a path that is to be read into these buffers, or the first refusal.
+fn judge_path(bytes: &[u8], highest: u16, coords: &[i32], speeds: &[u16], blends: &[u16]) -> Head
+    ensures { λ r. ⌜ r ≡ pathGiven (readInto (atEntry bytes) highest (lentStops coords speeds blends)) ⌝ }
 {
-    let count = stop_count(k);
-    if !stops_fit(count, coords.len(), speeds.len(), blends.len()) {
-        return;
+    let head = judge_head(bytes, highest);
+    let version = head.version;
+    let k = head.k;
+    if head.refused != 0 {
+        return head;
     }
-    store_stops(bytes, version, count, coords, speeds, blends)
+    if !stops_fit(stop_count(k), coords, speeds, blends) {
+        return no_head(WRONG_SIZE);
+    }
+    let refused = judge_body(bytes, version, k);
+    if refused != 0 {
+        return no_head(refused);
+    }
+    head
 }
 
 // Reads a path, for a caller that knows versions up to `highest`, into buffers of at least 3n, n and n places. The whole path is judged
@@ -53,26 +54,15 @@ pub fn read_path(
     speeds: &mut [u16],
     blends: &mut [u16],
 ) -> PathRead
-    ensures { λ r. ⌜ r ≡ readCall (now (bytes .entry)) highest (now (coords .entry)) (now (speeds .entry)) (now (blends .entry)) .answer ⌝ }
-    ensures { λ r. ⌜ now (coords .exit) ≡ readCall (now (bytes .entry)) highest (now (coords .entry)) (now (speeds .entry)) (now (blends .entry)) .coords ⌝ }
-    ensures { λ r. ⌜ now (speeds .exit) ≡ readCall (now (bytes .entry)) highest (now (coords .entry)) (now (speeds .entry)) (now (blends .entry)) .speeds ⌝ }
-    ensures { λ r. ⌜ now (blends .exit) ≡ readCall (now (bytes .entry)) highest (now (coords .entry)) (now (speeds .entry)) (now (blends .entry)) .blends ⌝ }
-    ensures { λ r. ⌜ SaysRead r (readPath (now (bytes .entry)) highest (λ k. stopsFit (stopCount k) (now (coords .entry)) (now (speeds .entry)) (now (blends .entry)))) ⌝ }
+    ensures { λ r. ⌜ ReadsPath bytes highest coords speeds blends r ⌝ }
 {
-    let head = judge_head(bytes, highest);
+    let head = judge_path(bytes, highest, coords, speeds, blends);
     let refused = head.refused;
     let version = head.version;
     let k = head.k;
     if refused != 0 {
         return PathRead::Refused(refused);
     }
-    if !stops_fit(stop_count(k), coords.len(), speeds.len(), blends.len()) {
-        return PathRead::Refused(WRONG_SIZE);
-    }
-    let body = judge_body(bytes, version, k);
-    if body != 0 {
-        return PathRead::Refused(body);
-    }
-    fill_path(bytes, version, k, coords, speeds, blends);
+    store_stops(bytes, version, stop_count(k), coords, speeds, blends);
     PathRead::Read { version, k }
 }

@@ -1,4 +1,5 @@
 // A path stored into an output that has room for it. These functions have a `requires`: the module is private.
+use crate::judge::HEAD_SIZE;
 use crate::judge::stop_size;
 use crate::put::put_end;
 use crate::put::put_head;
@@ -6,12 +7,12 @@ use crate::put::put_stop;
 use base::stop_count;
 use stop::stop_at;
 ghost use mathlib.Core.Path.{_≡_};
-ghost use Prim.Native.Nat.{_≤_};
+ghost use Prim.Native.Nat.{_≤_, _^_};
 ghost use lib.ListN.{length};
-ghost use Rattle.base.specs.Size.{stopCount};
+ghost use Rattle.base.specs.Outcome.{over};
+ghost use Rattle.base.specs.Size.{maxK};
 ghost use Rattle.records.specs.Put.{put};
-ghost use Rattle.stop.specs.Lent.{lentStops};
-ghost use Rattle.path.specs.Over.{over};
+ghost use Rattle.stop.specs.Lent.{lentStops, firstStops};
 ghost use Rattle.path.specs.Path.{pathSize, stopPlace};
 ghost use Rattle.path.specs.Written.{stopsBytes, pathBytes};
 
@@ -25,13 +26,13 @@ fn store_records(
     out: &mut [u8],
 )
     requires { ⌜ stopPlace version count ≤ length (now out) ⌝ }
-    ensures { λ r. ⌜ now (out .exit) ≡ put (now (out .entry)) 8 (stopsBytes version (lentStops count (now (coords .entry)) (now (speeds .entry)) (now (blends .entry)))) ⌝ }
+    ensures { λ r. ⌜ now (out .exit) ≡ put (now (out .entry)) 8 (stopsBytes version (firstStops count (lentStops coords speeds blends))) ⌝ }
 {
     let size = stop_size(version);
     for i in 0..count {
         put_stop(
             out,
-            8 + i * size,
+            HEAD_SIZE + i * size,
             version,
             stop_at(coords, speeds, blends, i),
         );
@@ -47,11 +48,11 @@ pub fn store_path(
     blends: &[u16],
     out: &mut [u8],
 )
-    requires { ⌜ pathSize version k ≤ length (now out) ⌝ }
-    ensures { λ r. ⌜ now (out .exit) ≡ over (pathBytes version k (lentStops (stopCount k) (now (coords .entry)) (now (speeds .entry)) (now (blends .entry)))) (now (out .entry)) ⌝ }
+    requires { ⌜ (k ≤ maxK) × (pathSize version k ≤ length (now out)) ⌝ }
+    ensures { λ r. ⌜ now (out .exit) ≡ over (pathBytes version k (firstStops (2 ^ k) (lentStops coords speeds blends))) (now (out .entry)) ⌝ }
 {
     let count = stop_count(k);
     put_head(out, version, k);
     store_records(version, count, coords, speeds, blends, out);
-    put_end(out, 8 + count * stop_size(version));
+    put_end(out, HEAD_SIZE + count * stop_size(version));
 }

@@ -5,35 +5,18 @@ use Prim.Native.Nat.{ℕ}
 use native.Mathlib.Omega.{arith}
 use lib.ListN.{length}
 use lib.Seq.{take-length}
-use Rattle.path.specs.Path.{PathMeaning, path, noPath, readPath}
-use Rattle.times.specs.Table.{entryOf}
-use Rattle.tree.specs.Total.{total}
-use Rattle.tree.specs.Wanted.{wanted}
-use Rattle.tree.proofs.Wanted.{wanted-shortest}
-use Rattle.run.proofs.Meaning.{read-same}
-use Rattle.cell.specs.Outcome.{done, cellTakes}
-use Rattle.cell.specs.Plan.{planned, wantedFile, Carries}
-use Rattle.answer.specs.Answers.{programHighest, answerOf, answerTo}
+use Rattle.base.specs.Outcome.{Outcome, gives, refuses, giving}
+use Rattle.path.specs.Path.{Path, readPath}
+use Rattle.jobs.specs.Limit.{smallEnough}
+use Rattle.jobs.specs.Plan.{wantedFile, Carries}
+use Rattle.jobs.proofs.Planning.{carries}
+use Rattle.plan_output.specs.Output.{programHighest, programFile, written, outputFor}
 
--- where the path is accepted, the answer is that file
-pub answer-carries : (input file : List ℕ) → planned (readPath input programHighest cellTakes) ≡ done file
-    → (answerTo input ≡ file) × Carries input programHighest (length file) file
-unfolding answerTo answerOf planned wantedFile
-answer-carries input file e = (ap answerOf e, go (readPath input programHighest cellTakes) refl e)
+-- where the path is accepted, the output is that file
+pub output-carries : (input file : List ℕ) → programFile input ≡ gives file → (outputFor input ≡ file) × Carries input programHighest (length file) file
+unfolding outputFor written
+output-carries input file e = (ap written e, by (readPath input programHighest smallEnough) refl e)
   where
-    go : (m : PathMeaning) → readPath input programHighest cellTakes ≡ m → planned m ≡ done file → Carries input programHighest (length file) file
-    go (path v k ss) h x =
-        let y : wantedFile k ss ≡ file = cc in
-        record {
-          k = k;
-          order = wanted k (entryOf ss);
-          sum = total (entryOf ss) (wanted k (entryOf ss));
-          file = take-length file ∙ sym y;
-          shortest = record {
-            version = v;
-            stops = ss;
-            means = read-same input programHighest cellTakes _ v k ss h refl;
-            shortest = wanted-shortest k (entryOf ss);
-          };
-        }
-    go (noPath n) h x = absurd (let z : _≡_ {A = ℕ} 0 1 = cc in omega arith)
+    by : (o : Outcome Path) → readPath input programHighest smallEnough ≡ o → giving wantedFile o ≡ gives file → Carries input programHighest (length file) file
+    by (gives p) m x = let is : wantedFile p ≡ file = cc in carries input programHighest smallEnough p (length file) file m (take-length file ∙ sym is)
+    by (refuses n) m x = absurd (let z : _≡_ {A = ℕ} 0 1 = cc in omega arith)

@@ -1,4 +1,4 @@
--- Laws of the program's answer.
-pub mod Outcomes
-pub mod Longer
+-- Laws of the program's output.
 pub mod Claim
+pub mod Longer
+pub mod Written

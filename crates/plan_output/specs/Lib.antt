@@ -1,2 +1,2 @@
--- The program's answer.
-pub mod Answers
+-- The program's output.
+pub mod Output

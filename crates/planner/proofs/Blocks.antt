@@ -13,10 +13,10 @@ use Rattle.tree.specs.Neighbour.{trail}
 use Rattle.tree.specs.Block.{besideOf}
 use Rattle.tree.proofs.Beside.{parity, shr-suc, trail-count}
 use Rattle.tree.proofs.Block.{block-of, block-only, beside-block, beside-in-block, trail-inside}
-use Rattle.planner.specs.Row.{rowOf, Aligned, Apart, Closed, Place}
+use Rattle.planner.specs.Row.{rowOf, AlignedBlock, RowsApart, BlockClosed, InnerPlace}
 
 -- a block of at most 1,024 has m up to 10
-pub aligned-small : {n start m : ℕ} → Aligned n start m → n ≤ 1024 → m ≤ 10
+pub aligned-small : {n start m : ℕ} → AlignedBlock n start m → n ≤ 1024 → m ≤ 10
 aligned-small {n} {start} {m} a h = go (decLe m 10)
   where
     go : Dec (m ≤ 10) → m ≤ 10
@@ -24,23 +24,23 @@ aligned-small {n} {start} {m} a h = go (decLe m 10)
     go (no x) = absurd (omega (arith, pow-mono {i = 11} {j = m} (omega arith), a .inside))
 
 -- a place inside a block has fewer than m trailing zero bits
-pub place-trail : {n left p base size : ℕ} (q : Place n left p base size) → trail p < q .m
+pub place-trail : {n left p base size : ℕ} (q : InnerPlace n left p base size) → trail p < q .m
 place-trail {left = left} {p = p} q =
     let e : q .places .number * 2 ^ q .m + (p - left) ≡ p = omega (arith, q .places .starts, q .after) in
     rw e at (trail-inside (q .places .number) (q .m) (p - left) (omega (arith, q .after)) (omega (arith, q .before, q .after)))
 
 -- a stop of an aligned block has the block's number
-pub in-block : {n base m : ℕ} (a : Aligned n base m) (i : ℕ) → base ≤ i → i < base + 2 ^ m → i / 2 ^ m ≡ a .number
+pub in-block : {n base m : ℕ} (a : AlignedBlock n base m) (i : ℕ) → base ≤ i → i < base + 2 ^ m → i / 2 ^ m ≡ a .number
 in-block {m = m} a i l h = block-only m i (a .number) (omega (arith, a .starts)) (omega (arith, a .starts))
 
 -- and every number with that quotient is in it
-pub of-block : {n base m : ℕ} (a : Aligned n base m) (i : ℕ) → i / 2 ^ m ≡ a .number → (base ≤ i) × (i < base + 2 ^ m)
+pub of-block : {n base m : ℕ} (a : AlignedBlock n base m) (i : ℕ) → i / 2 ^ m ≡ a .number → (base ≤ i) × (i < base + 2 ^ m)
 of-block {m = m} a i e =
     let b = rw e at (block-of m i) in
     (omega (arith, a .starts, b .0), omega (arith, a .starts, b .1))
 
 -- an aligned block holds the candidates of its stops
-pub closed : {n base m : ℕ} (t : ℕ) → Aligned n base m → t < m → Closed t base (2 ^ m)
+pub closed : {n base m : ℕ} (t : ℕ) → AlignedBlock n base m → t < m → BlockClosed t base (2 ^ m)
 closed {base = base} {m = m} t a l = record { low = low; high = high }
   where
     near : (i : ℕ) → base ≤ i → i < base + 2 ^ m → (d : ℕ) → d < 2 ^ t → (besideOf i t + d) / 2 ^ m ≡ a .number
@@ -79,15 +79,15 @@ unfolding rowOf
 rowOf-even n p e = rw e
 
 -- the rows of one place and of the next do not meet
-pub rows-apart : (n p : ℕ) → Apart n (n - rowOf n p) (rowOf n p)
+pub rows-apart : (n p : ℕ) → RowsApart n (n - rowOf n p) (rowOf n p)
 rows-apart n p = go (rowOf-cases n p)
   where
-    go : (rowOf n p ≡ 0) ⊎ (rowOf n p ≡ n) → Apart n (n - rowOf n p) (rowOf n p)
+    go : (rowOf n p ≡ 0) ⊎ (rowOf n p ≡ n) → RowsApart n (n - rowOf n p) (rowOf n p)
     go (inl e) = rw e (record { first = omega arith; second = omega arith; apart = λ i j a b x. omega arith })
     go (inr e) = rw e (record { first = omega arith; second = omega arith; apart = λ i j a b x. omega arith })
 
 -- the language's count finds a place's trailing zero bits
-pub place-count : {n left p base size : ℕ} → Place n left p base size → n ≤ 1024 → trailingZeros 64 p ≡ trail p
+pub place-count : {n left p base size : ℕ} → InnerPlace n left p base size → n ≤ 1024 → trailingZeros 64 p ≡ trail p
 place-count {p = p} q h = trail-count 64 p (omega (arith, q .after)) (omega (arith, q .before, q .places .inside))
 
 -- the row before a place's
@@ -99,7 +99,7 @@ rowOf-before n p h = go (parity p)
     go (inr e) = rw (rowOf-odd n p e, rowOf-even n (p - 1) (omega arith)) (omega arith)
 
 -- a block of 2 or more places starts at an even place
-pub aligned-even : {n start m : ℕ} → Aligned n start m → 0 < m → start % 2 ≡ 0
+pub aligned-even : {n start m : ℕ} → AlignedBlock n start m → 0 < m → start % 2 ≡ 0
 aligned-even {start = start} {m = zero} a h = absurd (omega arith)
 aligned-even {start = start} {m = suc m} a h =
     let e : a .number * 2 ^ suc m ≡ 2 * (a .number * 2 ^ m) = ap (λ x. a .number * x) (pow-succ' 2 m) ∙ mul-left-comm (a .number) 2 (2 ^ m) in
@@ -111,17 +111,17 @@ pow-half zero h = absurd (omega arith)
 pow-half (suc m) h = let e : suc m - 1 ≡ m = omega arith in rw e (pow-succ' 2 m)
 
 -- the two halves of an aligned block are aligned
-module _ {n start m : ℕ} (a : Aligned n start m) (two : 0 < m) where
+module _ {n start m : ℕ} (a : AlignedBlock n start m) (two : 0 < m) where
   -- twice as many blocks of half the size
   twice : a .number * 2 ^ m ≡ 2 * a .number * 2 ^ (m - 1)
   twice = ap (λ x. a .number * x) (pow-half m two) ∙ mul-left-comm (a .number) 2 (2 ^ (m - 1)) ∙ sym (mul-assoc 2 (a .number) (2 ^ (m - 1)))
 
   -- the first half
-  pub first-half : Aligned n start (m - 1)
+  pub first-half : AlignedBlock n start (m - 1)
   first-half = record { number = 2 * a .number; starts = a .starts ∙ twice; inside = omega (arith, a .inside, pow-half m two) }
 
   -- the second
-  pub second-half : Aligned n (start + 2 ^ (m - 1)) (m - 1)
+  pub second-half : AlignedBlock n (start + 2 ^ (m - 1)) (m - 1)
   second-half = record {
     number = 2 * a .number + 1;
     starts = omega (arith, a .starts, twice, add-mul (2 * a .number) 1 (2 ^ (m - 1)), one-mul (2 ^ (m - 1)));
@@ -129,7 +129,7 @@ module _ {n start m : ℕ} (a : Aligned n start m) (two : 0 < m) where
   }
 
 -- the rows of a block of 2 or more places, as they are swept
-module _ {n left m : ℕ} (a : Aligned n left m) (two : 0 < m) where
+module _ {n left m : ℕ} (a : AlignedBlock n left m) (two : 0 < m) where
   -- the first is left in the even row
   pub first-row-at : n - rowOf n (left + 1) ≡ 0
   first-row-at = omega (arith, rowOf-odd n (left + 1) (omega (arith, aligned-even a two)))

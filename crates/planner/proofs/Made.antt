@@ -7,7 +7,7 @@ use native.Mathlib.Omega.{arith}
 use lib.ListN.{length, getD, set, length-set}
 use lib.Seq.{getD-set-other}
 use Rattle.tree.specs.Block.{besideOf}
-use Rattle.planner.specs.Row.{through, cheapestTo, nextTotal, nextPivot, Apart}
+use Rattle.planner.specs.Row.{through, cheapestTo, nextTotal, nextPivot, RowsApart}
 use Rattle.planner.proofs.Candidates.{cheapest-same, leastFrom-lt}
 use Rattle.planner.proofs.Stores.{store-more}
 
@@ -26,7 +26,7 @@ chosen-lt n table B old t i pos b = leastFrom-lt (through n table B old i) (besi
 
 module _ (n : ℕ) (table B P : List ℕ) (old new t : ℕ) (early : Bool) (base : ℕ) where
   -- two stops settled one after the other, in the words of the rows
-  pub settled : (i : ℕ) (one other : ℕ × ℕ) (B₁ P₁ B₂ P₂ : List ℕ) → Apart n old new → i < n → 0 < n → besideOf (i + 1) t + 2 ^ t ≤ n
+  pub settled : (i : ℕ) (one other : ℕ × ℕ) (B₁ P₁ B₂ P₂ : List ℕ) → RowsApart n old new → i < n → 0 < n → besideOf (i + 1) t + 2 ^ t ≤ n
       → one ≡ cheapestTo n table B old t i → other ≡ cheapestTo n table B old t (i + 1)
       → B₁ ≡ set B (new + i) (one .0) → P₁ ≡ set P (new + i) (cond early i (getD P (old + one .1) 0))
       → B₂ ≡ set B₁ (new + (i + 1)) (other .0) → P₂ ≡ set P₁ (new + (i + 1)) (cond early (i + 1) (getD P₁ (old + other .1) 0))
@@ -50,7 +50,7 @@ module _ (n : ℕ) (table B P : List ℕ) (old new t : ℕ) (early : Bool) (base
   }
 
   -- one stop more
-  made-more : (i : ℕ) (B′ P′ : List ℕ) → Apart n old new → i < n → length B ≡ n + n → length P ≡ n + n → Made n table B P old new t early base i B′ P′
+  made-more : (i : ℕ) (B′ P′ : List ℕ) → RowsApart n old new → i < n → length B ≡ n + n → length P ≡ n + n → Made n table B P old new t early base i B′ P′
       → Made n table B P old new t early base (i + 1) (set B′ (new + i) (nextTotal n table B old t i)) (set P′ (new + i) (nextPivot n table B P old t early i))
   made-more i B′ P′ q small rows marks m = record {
     totals-long = rw length-set (m .totals-long);
@@ -75,7 +75,7 @@ module _ (n : ℕ) (table B P : List ℕ) (old new t : ℕ) (early : Bool) (base
       (ap (λ y. y .0) e, rw (e, m .pivots-kept ((cheapestTo n table B old t x) .1) (chosen-lt n table B old t x pos b)))
 
   -- two stops more
-  pub made-two : (i : ℕ) (B′ P′ B₂ P₂ : List ℕ) → Apart n old new → i + 1 < n → length B ≡ n + n → length P ≡ n + n
+  pub made-two : (i : ℕ) (B′ P′ B₂ P₂ : List ℕ) → RowsApart n old new → i + 1 < n → length B ≡ n + n → length P ≡ n + n
       → besideOf i t + 2 ^ t ≤ n → besideOf (i + 1) t + 2 ^ t ≤ n → Made n table B P old new t early base i B′ P′
       → B₂ ≡ set (set B′ (new + i) (nextTotal n table B′ old t i)) (new + (i + 1)) (nextTotal n table B′ old t (i + 1))
       → P₂ ≡ set (set P′ (new + i) (nextPivot n table B′ P′ old t early i)) (new + (i + 1)) (nextPivot n table B′ P′ old t early (i + 1))

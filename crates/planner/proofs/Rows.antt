@@ -18,7 +18,7 @@ use Rattle.tree.specs.Neighbour.{trail, mayFollow, inPlace}
 use Rattle.tree.specs.Block.{besideOf}
 use Rattle.tree.specs.Total.{entry}
 use Rattle.tree.proofs.Block.{mayFollow-block}
-use Rattle.planner.specs.Row.{unreached, through, nextTotal, nextPivot, leastFrom, mayStart, startTime, blockGraph, Row, Held, Closed, Place}
+use Rattle.planner.specs.Row.{unreached, through, nextTotal, nextPivot, leastFrom, mayStart, startTime, blockGraph, RowHolds, TotalsBounded, BlockClosed, InnerPlace}
 use Rattle.planner.proofs.Blocks.{place-trail, closed}
 use Rattle.planner.proofs.Candidates.{leastFrom-all}
 
@@ -63,8 +63,8 @@ module _ (n : ℕ) (T o : List ℕ) (left : ℕ) (words : (x : ℕ) → getD T x
   weight-small p j i = omega (arith, words (j * n + i))
 
   -- THE NEXT ROW
-  pub next-holds : (B P : List ℕ) (p mid base size old : ℕ) → Place n left p base size → left ≤ mid → n ≤ 1024
-      → Row (blockGraph n T o left) (mid - left) (p - (left + 1)) old base size B P → (i : ℕ) → base ≤ i → i < base + size
+  pub next-holds : (B P : List ℕ) (p mid base size old : ℕ) → InnerPlace n left p base size → left ≤ mid → n ≤ 1024
+      → RowHolds (blockGraph n T o left) (mid - left) (p - (left + 1)) old base size B P → (i : ℕ) → base ≤ i → i < base + size
       → Codes unreached (nextTotal n T B old (trail p) i) (nextPivot n T B P old (trail p) (leb p mid) i)
       (line (blockGraph n T o left) (mid - left) (p - left) i)
   unfolding blockGraph segment
@@ -73,7 +73,7 @@ module _ (n : ℕ) (T o : List ℕ) (left : ℕ) (words : (x : ℕ) → getD T x
       let t : ℕ = trail p in
       let e : suc (past left p′) ≡ p = omega (arith, past-sum left p′, q .after) in
       let f : p - left ≡ suc p′ = omega (arith, q .after) in
-      let c : Closed t base (2 ^ q .m) = closed t (q .stops) (place-trail q) in
+      let c : BlockClosed t base (2 ^ q .m) = closed t (q .stops) (place-trail q) in
       let w : size ≡ 2 ^ q .m = q .width in
       let high : besideOf i t + 2 ^ t ≤ base + size = omega (arith, c .high i x (omega arith)) in
       let low : base ≤ besideOf i t = c .low i x (omega arith) in
@@ -98,7 +98,7 @@ module _ (n : ℕ) (T o : List ℕ) (left : ℕ) (words : (x : ℕ) → getD T x
   -- THE FIRST ROW: every stop of the block may stand first
   pub first-holds : (B P : List ℕ) (mid base size : ℕ) → ((i : ℕ) → base ≤ i → i < base + size → mayStart o left i ≡ true)
       → ((i : ℕ) → base ≤ i → i < base + size → getD B i 0 ≡ startTime n T o left i) → ((i : ℕ) → base ≤ i → i < base + size → getD P i 0 ≡ i)
-      → Row (blockGraph n T o left) mid 0 0 base size B P
+      → RowHolds (blockGraph n T o left) mid 0 0 base size B P
   unfolding blockGraph segment
   first-holds B P mid base size may times own = record { holds = each }
     where
@@ -109,12 +109,12 @@ module _ (n : ℕ) (T o : List ℕ) (left : ℕ) (words : (x : ℕ) → getD T x
           rw (zero-add i, times i x y, own i x y) (rw (may i x y) at r)
 
 -- no total of a row is above `unreached`
-pub row-held : {G : Graph} {mid p off base size : ℕ} {B P : List ℕ} → Row G mid p off base size B P → Held off base size B
+pub row-held : {G : Graph} {mid p off base size : ℕ} {B P : List ℕ} → RowHolds G mid p off base size B P → TotalsBounded off base size B
 row-held {G} {mid} {p} {off} {base} {size} {B} {P} row = record {
   below = λ i x y. codes-le unreached (getD B (off + i) 0) (getD P (off + i) 0) (line G mid p i) (row .holds i x y);
 }
 
 -- a row under other names for its numbers
 pub row-at : {G : Graph} {mid mid′ p p′ off off′ base size size′ : ℕ} {B P : List ℕ} → mid ≡ mid′ → p ≡ p′ → off ≡ off′ → size ≡ size′
-    → Row G mid p off base size B P → Row G mid′ p′ off′ base size′ B P
+    → RowHolds G mid p off base size B P → RowHolds G mid′ p′ off′ base size′ B P
 row-at e f g h row = rw (← e, ← f, ← g, ← h) row

@@ -60,11 +60,11 @@ unfoldable pub rowOf : ℕ → ℕ → ℕ
 rowOf n p = cond (eqb (p % 2) 0) 0 n
 
 -- the row at `off`: for each stop i of the block the cost of the best walk of p moves to i, and its stop after `mid` moves
-pub record Row (G : Graph) (mid p off base size : ℕ) (totals pivots : List ℕ) : Type 0 where
+pub record RowHolds (G : Graph) (mid p off base size : ℕ) (totals pivots : List ℕ) : Type 0 where
   pub holds : (i : ℕ) → base ≤ i → i < base + size → Codes unreached (getD totals (off + i) 0) (getD pivots (off + i) 0) (line G mid p i)
 
 -- the lengths that the method works with, for n = 2^k stops
-pub record Sizes (n table order totals pivots : ℕ) : Type 0 where
+pub record LentSizes (n table order totals pivots : ℕ) : Type 0 where
   pub k : ℕ
   pub small : k ≤ 10
   pub stops : n ≡ 2 ^ k
@@ -74,70 +74,70 @@ pub record Sizes (n table order totals pivots : ℕ) : Type 0 where
   pub marks : pivots ≡ n + n
 
 -- what is written in the places of an order are stops
-pub record Stops (n : ℕ) (o : List ℕ) : Type 0 where
+pub record HoldsStops (n : ℕ) (o : List ℕ) : Type 0 where
   pub below : (p : ℕ) → p < n → inPlace o p < n
 
 -- an aligned block of 2^m of n
-pub record Aligned (n start m : ℕ) : Type 0 where
+pub record AlignedBlock (n start m : ℕ) : Type 0 where
   pub number : ℕ
   pub starts : start ≡ number * 2 ^ m
   pub inside : start + 2 ^ m ≤ n
 
 -- two rows of n that do not meet
-pub record Apart (n old new : ℕ) : Type 0 where
+pub record RowsApart (n old new : ℕ) : Type 0 where
   pub first : old ≤ n
   pub second : new ≤ n
   pub apart : (i j : ℕ) → i < n → j < n → old + j ≢ new + i
 
 -- a block of stops that holds the 2^t candidates of each of its stops
-pub record Closed (t base size : ℕ) : Type 0 where
+pub record BlockClosed (t base size : ℕ) : Type 0 where
   pub low : (i : ℕ) → base ≤ i → i < base + size → base ≤ besideOf i t
   pub high : (i : ℕ) → base ≤ i → i < base + size → besideOf i t + 2 ^ t ≤ base + size
 
 -- place p of an aligned block of 2^m places from `left` on, not the first, for an aligned block of as many stops
-pub record Place (n left p base size : ℕ) : Type 0 where
+pub record InnerPlace (n left p base size : ℕ) : Type 0 where
   pub m : ℕ
-  pub places : Aligned n left m
-  pub stops : Aligned n base m
+  pub places : AlignedBlock n left m
+  pub stops : AlignedBlock n base m
   pub width : size ≡ 2 ^ m
   pub after : left < p
   pub before : p < left + 2 ^ m
 
 -- no total of the row at `off` is above `unreached`
-pub record Held (off base size : ℕ) (totals : List ℕ) : Type 0 where
+pub record TotalsBounded (off base size : ℕ) (totals : List ℕ) : Type 0 where
   pub below : (i : ℕ) → base ≤ i → i < base + size → getD totals (off + i) 0 ≤ unreached
 
 -- a block's last place holds a stop that can be reached: the best walk to it
-pub record Found (n : ℕ) (table o : List ℕ) (left m : ℕ) : Type 0 where
+pub record LastReached (n : ℕ) (table o : List ℕ) (left m : ℕ) : Type 0 where
   pub cost : ℕ
   pub walk : List ℕ
   pub found : best (blockGraph n table o left) (2 ^ m - 1) (inPlace o (left + 2 ^ m - 1)) ≡ at cost walk
 
 -- what fixing the middle place of a block does to an order: it holds the stop there of the best walk to the last place
-pub record Halved (n : ℕ) (table : List ℕ) (left m : ℕ) (o u : List ℕ) : Type 0 where
+pub record MiddleFixed (n : ℕ) (table : List ℕ) (left m : ℕ) (o u : List ℕ) : Type 0 where
   pub pivot : ℕ
   pub stored : u ≡ set o (left + 2 ^ (m - 1) - 1) pivot
   pub right : (c : ℕ) (l : List ℕ) → best (blockGraph n table o left) (2 ^ m - 1) (inPlace o (left + 2 ^ m - 1)) ≡ at c l
       → pivot ≡ getD l (2 ^ (m - 1) - 1) 0
 
 -- what solving a block of 2^m places does to an order: the best walk to its last place stands before it, and nothing else changed
-pub record Solved (n : ℕ) (table : List ℕ) (left m : ℕ) (o u : List ℕ) : Type 0 where
-  pub stops : Stops n u
+pub record BlockSolved (n : ℕ) (table : List ℕ) (left m : ℕ) (o u : List ℕ) : Type 0 where
+  pub stops : HoldsStops n u
   pub before : (p : ℕ) → p < left → inPlace u p ≡ inPlace o p
   pub after : (p : ℕ) → left + 2 ^ m ≤ p + 1 → inPlace u p ≡ inPlace o p
   pub filled : (c : ℕ) (l : List ℕ) → best (blockGraph n table o left) (2 ^ m - 1) (inPlace o (left + 2 ^ m - 1)) ≡ at c l
       → stopsTo (λ x. inPlace u (past left x)) (2 ^ m - 1) ≡ l
 
 -- the whole order with its last and its middle place fixed: `before` has the last place alone, which holds the least of the last row
-pub record Ended (n : ℕ) (table : List ℕ) (k : ℕ) (u : List ℕ) (total : ℕ) : Type 0 where
+pub record EndsFixed (n : ℕ) (table : List ℕ) (k : ℕ) (u : List ℕ) (total : ℕ) : Type 0 where
   pub before : List ℕ
   pub long : length before ≡ n
-  pub stops : Stops n before
+  pub stops : HoldsStops n before
   pub chosen : last (blockGraph n table before 0) (n - 1) ≡ at total (inPlace before (n - 1))
-  pub halved : Halved n table 0 k before u
+  pub halved : MiddleFixed n table 0 k before u
 
 -- what a run of the method leaves: the wanted order, its total, and work space that is 0
-pub record Ran (n k : ℕ) (table order totals pivots : List ℕ) (sum : ℕ) : Type 0 where
+pub record LeftByMethod (n k : ℕ) (table order totals pivots : List ℕ) (sum : ℕ) : Type 0 where
   pub wrote : order ≡ wanted k (entry n table)
   pub summed : sum ≡ total (entry n table) (wanted k (entry n table))
   pub cleared : totals ≡ replicate (n + n) 0

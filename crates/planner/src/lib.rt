@@ -8,7 +8,8 @@ mod halve;
 mod row;
 
 ghost use mathlib.Core.Path.{_≡_};
-ghost use Rattle.planner.specs.Plan.{judgePlan, Plans};
+ghost use Rattle.base.specs.Outcome.{number};
+ghost use Rattle.planner.specs.Plan.{planRoom, PlansOrder};
 
 // What planning answers: the total of the order that was written, or the refusal's number.
 pub enum Planned {
@@ -18,9 +19,9 @@ pub enum Planned {
 
 // 0, or the number of the refusal for these lengths: k above 10 (5), then a table not n² long or a lent buffer too short (8).
 pub fn judge_lengths(k: u16, table: usize, order: usize, totals: usize, pivots: usize) -> u16
-    ensures { λ r. ⌜ r ≡ judgePlan k table order totals pivots ⌝ }
+    ensures { λ r. ⌜ r ≡ number (planRoom k table order totals pivots) ⌝ }
 {
-    if 10 < k {
+    if base::MAX_K < k {
         return base::WRONG_K;
     }
     let n = base::stop_count(k);
@@ -48,7 +49,7 @@ pub fn plan(
     totals: &mut [u64],
     pivots: &mut [u16],
 ) -> Planned
-    ensures { λ r. ⌜ Plans k (now (table .entry)) (now (order .entry)) (now (totals .entry)) (now (pivots .entry)) (now (order .exit)) (now (totals .exit)) (now (pivots .exit)) r ⌝ }
+    ensures { λ r. ⌜ PlansOrder k table order totals pivots r ⌝ }
 {
     let refused = judge_lengths(k, table.len(), order.len(), totals.len(), pivots.len());
     if refused != 0 {

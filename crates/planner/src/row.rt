@@ -11,7 +11,7 @@ ghost use mathlib.Core.List.{List};
 ghost use Prim.Native.Nat.{ℕ, _+_, _-_, _*_, _%_, _^_, _≤_, _<_};
 ghost use lib.ListN.{length, getD, set, replicate};
 ghost use Rattle.tree.specs.Block.{besideOf};
-ghost use Rattle.planner.specs.Row.{startTime, mayStart, blockGraph, rowOf, cheapestTo, nextTotal, nextPivot, Row, Sizes, Stops, Aligned, Held, Apart, Closed, Place};
+ghost use Rattle.planner.specs.Row.{startTime, mayStart, blockGraph, rowOf, cheapestTo, nextTotal, nextPivot, RowHolds, LentSizes, HoldsStops, AlignedBlock, TotalsBounded, RowsApart, BlockClosed, InnerPlace};
 
 // A stop's number as an index.
 pub fn index(stop: u16) -> usize
@@ -46,7 +46,7 @@ fn beside(i: usize, t: u32) -> usize
 // The time of coming to stop i as the first of the places from `left` on.
 fn start_time(table: &[u32], n: usize, order: &[u16], left: usize, i: usize) -> u64
     requires { ⌜ (i < n) × (left < n) × (n ≤ 1024) × (length (now order) ≡ n) × (length (now table) ≡ n * n) ⌝ }
-    requires { ⌜ Stops n (now order) ⌝ }
+    requires { ⌜ HoldsStops n (now order) ⌝ }
     ensures { λ r. ⌜ r ≡ startTime n (now (table .entry)) (now (order .entry)) left i ⌝ }
 {
     if left == 0 {
@@ -65,9 +65,9 @@ fn begin(
     left: usize,
     i: usize,
 )
-    requires { ⌜ Sizes n (length (now table)) (length (now order)) (length (now totals)) (length (now pivots)) ⌝ }
+    requires { ⌜ LentSizes n (length (now table)) (length (now order)) (length (now totals)) (length (now pivots)) ⌝ }
     requires { ⌜ (i < n) × (left < n) ⌝ }
-    requires { ⌜ Stops n (now order) ⌝ }
+    requires { ⌜ HoldsStops n (now order) ⌝ }
     ensures { λ _. ⌜ now (totals .exit) ≡ set (now (totals .entry)) i (startTime n (now (table .entry)) (now (order .entry)) left i) ⌝ }
     ensures { λ _. ⌜ now (pivots .exit) ≡ set (now (pivots .entry)) i i ⌝ }
 {
@@ -86,9 +86,9 @@ fn first_row(
     base: usize,
     size: usize,
 )
-    requires { ⌜ Sizes n (length (now table)) (length (now order)) (length (now totals)) (length (now pivots)) ⌝ }
+    requires { ⌜ LentSizes n (length (now table)) (length (now order)) (length (now totals)) (length (now pivots)) ⌝ }
     requires { ⌜ (base + size ≤ n) × (left < n) ⌝ }
-    requires { ⌜ Stops n (now order) ⌝ }
+    requires { ⌜ HoldsStops n (now order) ⌝ }
     ensures { λ _. ⌜ ((i : ℕ) → base ≤ i → i < base + size → getD (now (totals .exit)) i 0 ≡ startTime n (now (table .entry)) (now (order .entry)) left i) ⌝ }
     ensures { λ _. ⌜ ((i : ℕ) → base ≤ i → i < base + size → getD (now (pivots .exit)) i 0 ≡ i) ⌝ }
 {
@@ -107,9 +107,9 @@ fn pivot_of(pivots: &[u16], early: bool, at: usize, i: usize) -> u16
 
 // The cheapest ways to the stops i and i + 1, i even, from their 2^t candidates each: the same ones but where t is 0.
 fn two_cheapest(table: &[u32], n: usize, totals: &[u64], old: usize, t: u32, i: usize) -> Two
-    requires { ⌜ Sizes n (length (now table)) n (length (now totals)) (n + n) ⌝ }
+    requires { ⌜ LentSizes n (length (now table)) n (length (now totals)) (n + n) ⌝ }
     requires { ⌜ (old ≤ n) × (i % 2 ≡ 0) × (i + 1 < n) × (t < 10) × (besideOf i t + 2 ^ t ≤ n) × (besideOf (i + 1) t + 2 ^ t ≤ n) ⌝ }
-    requires { ⌜ Held old (besideOf i t) (2 ^ t) (now totals) × Held old (besideOf (i + 1) t) (2 ^ t) (now totals) ⌝ }
+    requires { ⌜ TotalsBounded old (besideOf i t) (2 ^ t) (now totals) × TotalsBounded old (besideOf (i + 1) t) (2 ^ t) (now totals) ⌝ }
     ensures { λ c. ⌜ (c .one .total, c .one .stop) ≡ cheapestTo n (now (table .entry)) (now (totals .entry)) old t i ⌝ }
     ensures { λ c. ⌜ (c .other .total, c .other .stop) ≡ cheapestTo n (now (table .entry)) (now (totals .entry)) old t (i + 1) ⌝ }
 {
@@ -154,9 +154,9 @@ fn settle_two(
     early: bool,
     i: usize,
 )
-    requires { ⌜ Sizes n (length (now table)) n (length (now totals)) (length (now pivots)) ⌝ }
-    requires { ⌜ Apart n old new × (i % 2 ≡ 0) × (i + 1 < n) × (t < 10) × (besideOf i t + 2 ^ t ≤ n) × (besideOf (i + 1) t + 2 ^ t ≤ n) ⌝ }
-    requires { ⌜ Held old (besideOf i t) (2 ^ t) (now totals) × Held old (besideOf (i + 1) t) (2 ^ t) (now totals) ⌝ }
+    requires { ⌜ LentSizes n (length (now table)) n (length (now totals)) (length (now pivots)) ⌝ }
+    requires { ⌜ RowsApart n old new × (i % 2 ≡ 0) × (i + 1 < n) × (t < 10) × (besideOf i t + 2 ^ t ≤ n) × (besideOf (i + 1) t + 2 ^ t ≤ n) ⌝ }
+    requires { ⌜ TotalsBounded old (besideOf i t) (2 ^ t) (now totals) × TotalsBounded old (besideOf (i + 1) t) (2 ^ t) (now totals) ⌝ }
     ensures { λ _. ⌜ now (totals .exit) ≡ set (set (now (totals .entry)) (new + i) (nextTotal n (now (table .entry)) (now (totals .entry)) old t i)) (new + (i + 1)) (nextTotal n (now (table .entry)) (now (totals .entry)) old t (i + 1)) ⌝ }
     ensures { λ _. ⌜ now (pivots .exit) ≡ set (set (now (pivots .entry)) (new + i) (nextPivot n (now (table .entry)) (now (totals .entry)) (now (pivots .entry)) old t early i)) (new + (i + 1)) (nextPivot n (now (table .entry)) (now (totals .entry)) (now (pivots .entry)) old t early (i + 1)) ⌝ }
 {
@@ -178,10 +178,10 @@ fn next_row(
     base: usize,
     size: usize,
 )
-    requires { ⌜ Sizes n (length (now table)) n (length (now totals)) (length (now pivots)) ⌝ }
-    requires { ⌜ Apart n old new × (t < 10) × (base + size ≤ n) × (base % 2 ≡ 0) × (size % 2 ≡ 0) ⌝ }
-    requires { ⌜ Closed t base size ⌝ }
-    requires { ⌜ Held old base size (now totals) ⌝ }
+    requires { ⌜ LentSizes n (length (now table)) n (length (now totals)) (length (now pivots)) ⌝ }
+    requires { ⌜ RowsApart n old new × (t < 10) × (base + size ≤ n) × (base % 2 ≡ 0) × (size % 2 ≡ 0) ⌝ }
+    requires { ⌜ BlockClosed t base size ⌝ }
+    requires { ⌜ TotalsBounded old base size (now totals) ⌝ }
     ensures { λ _. ⌜ ((i : ℕ) → base ≤ i → i < base + size → getD (now (totals .exit)) (new + i) 0 ≡ nextTotal n (now (table .entry)) (now (totals .entry)) old t i) ⌝ }
     ensures { λ _. ⌜ ((i : ℕ) → base ≤ i → i < base + size → getD (now (pivots .exit)) (new + i) 0 ≡ nextPivot n (now (table .entry)) (now (totals .entry)) (now (pivots .entry)) old t early i) ⌝ }
 {
@@ -204,10 +204,10 @@ fn next_place(
     base: usize,
     size: usize,
 )
-    requires { ⌜ Sizes n (length (now table)) n (length (now totals)) (length (now pivots)) ⌝ }
-    requires { ⌜ Place n left p base size × (left ≤ mid) ⌝ }
-    requires { ⌜ Held (n - rowOf n p) base size (now totals) ⌝ }
-    ensures { λ _. ⌜ ((o : List ℕ) → Row (blockGraph n (now (table .entry)) o left) (mid - left) (p - (left + 1)) (n - rowOf n p) base size (now (totals .entry)) (now (pivots .entry)) → Row (blockGraph n (now (table .entry)) o left) (mid - left) (p - left) (rowOf n p) base size (now (totals .exit)) (now (pivots .exit))) ⌝ }
+    requires { ⌜ LentSizes n (length (now table)) n (length (now totals)) (length (now pivots)) ⌝ }
+    requires { ⌜ InnerPlace n left p base size × (left ≤ mid) ⌝ }
+    requires { ⌜ TotalsBounded (n - rowOf n p) base size (now totals) ⌝ }
+    ensures { λ _. ⌜ ((o : List ℕ) → RowHolds (blockGraph n (now (table .entry)) o left) (mid - left) (p - (left + 1)) (n - rowOf n p) base size (now (totals .entry)) (now (pivots .entry)) → RowHolds (blockGraph n (now (table .entry)) o left) (mid - left) (p - left) (rowOf n p) base size (now (totals .exit)) (now (pivots .exit))) ⌝ }
 {
     let new = row_of(n, p);
     let t = usize::trailing_zeros(p);
@@ -236,11 +236,11 @@ pub fn sweep(
     base: usize,
     m: u32,
 )
-    requires { ⌜ Sizes n (length (now table)) (length (now order)) (length (now totals)) (length (now pivots)) ⌝ }
-    requires { ⌜ (0 < m) × Aligned n left m × Aligned n base m ⌝ }
-    requires { ⌜ Stops n (now order) ⌝ }
+    requires { ⌜ LentSizes n (length (now table)) (length (now order)) (length (now totals)) (length (now pivots)) ⌝ }
+    requires { ⌜ (0 < m) × AlignedBlock n left m × AlignedBlock n base m ⌝ }
+    requires { ⌜ HoldsStops n (now order) ⌝ }
     requires { ⌜ ((i : ℕ) → base ≤ i → i < base + 2 ^ m → mayStart (now order) left i ≡ true) ⌝ }
-    ensures { λ _. ⌜ Row (blockGraph n (now (table .entry)) (now (order .entry)) left) (2 ^ (m - 1) - 1) (2 ^ m - 1) n base (2 ^ m) (now (totals .exit)) (now (pivots .exit)) ⌝ }
+    ensures { λ _. ⌜ RowHolds (blockGraph n (now (table .entry)) (now (order .entry)) left) (2 ^ (m - 1) - 1) (2 ^ m - 1) n base (2 ^ m) (now (totals .exit)) (now (pivots .exit)) ⌝ }
 {
     let size = two_to(m);
     let mid = left + two_to(m - 1) - 1;

@@ -1,16 +1,19 @@
 -- One draw from a cursor in the bytes of a path, and draws one after another: 'each stop before the end or before the first refused record,
 -- then the end or the refusal that a whole reading with long enough buffers gives; later draws repeat it'.
+use mathlib.Core.Path.{_≡_}
 use mathlib.Core.Bool.{cond}
 use mathlib.Core.List.{List}
-use Prim.Native.Nat.{ℕ, zero, suc, _-_, _/_}
-use lib.Dec.{ltb, eqb}
+use Prim.Native.Nat.{ℕ, zero, suc, _-_, _/_, _^_}
+use lib.Dec.{ltb}
 use lib.ListN.{drop}
 use denote.Ref.{RefT, now}
 use Rattle.base.specs.Refusal.{accepted}
-use Rattle.base.specs.Size.{stopCount}
+use Rattle.base.specs.Outcome.{Outcome, gives, refuses}
+use Rattle.base.specs.Buffer.{Lent, atEntry, atExit}
+use Rattle.stop.specs.declared.Stop.{Stop}
 use Rattle.stop.specs.Stop.{zeroStop}
-use Rattle.path.specs.Path.{HeadRead, head, noHead, readHead, readBody, bodyNumber, stopNumber, stopIn, stopPlace, stopSize}
-use Rattle.path.specs.Draw.{Draw, drawn, ended, drawRefused}
+use Rattle.path.specs.Path.{PathHead, readHead, readStop, readBody, stopPlace, stopSize}
+use Rattle.path.specs.Draw.{Draw, drawn, ended, drawRefused, lastDraw}
 use Rattle.reader.specs.declared.Drawn.{Drawn}
 use Rattle.reader.specs.declared.Step.{Step}
 use Rattle.reader.specs.declared.Reader.{Reader}
@@ -35,27 +38,34 @@ drawAnswer (drawRefused n) = record { verdict = aRefusal; number = n; stop = zer
 unfoldable pub stopBefore : (version at : ℕ) → ℕ
 stopBefore version at = (at - 8) / stopSize version
 
--- a draw that is good where nothing is refused
-unfoldable pub drawOr : (number : ℕ) (good : Draw) → Draw
-drawOr number good = cond (eqb number accepted) good (drawRefused number)
+-- the draw of a stop's record: the stop, or the refusal
+unfoldable pub stopDraw : Outcome Stop → Draw
+stopDraw (gives s) = drawn s
+stopDraw (refuses n) = drawRefused n
 
--- the draw at stop i of a path of this version and k: the stop's record, and from n on the end's with what follows it
-unfoldable pub drawOf : (bytes : List ℕ) (version k i : ℕ) → Draw
-drawOf bytes version k i =
-    cond (ltb i (stopCount k))
-    (drawOr (stopNumber version (drop (stopPlace version i) bytes)) (drawn (stopIn version i bytes)))
-    (drawOr (bodyNumber (readBody version zero (drop (stopPlace version (stopCount k)) bytes))) ended)
+-- the draw at stop i of a path of n stops: the stop's record, and from n on the end's with what follows it
+unfoldable pub drawOf : (bytes : List ℕ) (version n i : ℕ) → Draw
+drawOf bytes version n i =
+    cond (ltb i n)
+    (stopDraw (readStop version (drop (stopPlace version i) bytes)))
+    (lastDraw (readBody version zero (drop (stopPlace version n) bytes)))
 
--- after a stop the cursor is where the next record begins and the version is the path's; the end and a refusal leave both as they are
+-- the end and a refusal leave the cursor and the version as they are
+abbrev pub staying : (at version : ℕ) → Draw → Step
+staying at version d = record { drawn = drawAnswer d; at = at; version = version }
+
+-- after stop i the cursor is where the next record begins, and the version is the path's
 unfoldable pub stepOf : (at version path i : ℕ) → Draw → Step
 stepOf at version path i (drawn s) = record { drawn = drawAnswer (drawn s); at = stopPlace path (suc i); version = path }
-stepOf at version path i ended = record { drawn = drawAnswer ended; at = at; version = version }
-stepOf at version path i (drawRefused n) = record { drawn = drawAnswer (drawRefused n); at = at; version = version }
+stepOf at version path i ended = staying at version ended
+stepOf at version path i (drawRefused n) = staying at version (drawRefused n)
 
-unfoldable pub stepIn : (bytes : List ℕ) (at version : ℕ) → HeadRead → Step
-stepIn bytes at version (head path k rest) =
-    stepOf at version path (stopBefore path at) (drawOf bytes path k (stopBefore path at))
-stepIn bytes at version (noHead n) = stepOf at version version zero (drawRefused n)
+-- the head decides first
+unfoldable pub stepIn : (bytes : List ℕ) (at version : ℕ) → Outcome PathHead → Step
+stepIn bytes at version (gives h) =
+    let i = stopBefore (h .version) at in
+    stepOf at version (h .version) i (drawOf bytes (h .version) (2 ^ h .k) i)
+stepIn bytes at version (refuses n) = staying at version (drawRefused n)
 
 -- one draw from a cursor by a reader that knows versions up to this one, whatever the cursor, the version and the bytes are
 unfoldable pub stepAt : (bytes : List ℕ) (at version : ℕ) → Step
@@ -81,6 +91,10 @@ nextStep r = stepAt (now (r .src)) (r .at) (r .version)
 -- and the reader after a draw: the same bytes, with the cursor and the version that the draw left
 abbrev pub moved : Reader → Step → Reader
 moved r s = record { src = r .src; at = s .at; version = s .version }
+
+-- the promise of a draw: its answer, and the reader before and after
+abbrev pub DrawsNext : Lent Reader → Drawn → Type 0
+DrawsNext r d = (d ≡ nextStep (atEntry r) .drawn) × (atExit r ≡ moved (atEntry r) (nextStep (atEntry r)))
 
 -- the reader after d draws
 unfoldable pub afterDraws : Reader → (d : ℕ) → Reader

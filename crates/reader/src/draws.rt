@@ -5,6 +5,7 @@ use crate::Drawn;
 use crate::Step;
 use crate::THE_END;
 use base::stop_count;
+use path::HEAD_SIZE;
 use path::judge_end;
 use path::judge_head;
 use path::judge_stop;
@@ -12,6 +13,8 @@ use path::stop_from;
 use path::stop_size;
 use stop::Stop;
 ghost use mathlib.Core.Path.{_≡_};
+ghost use Rattle.base.specs.Buffer.{atEntry};
+ghost use Rattle.stop.specs.Stop.{zeroStop};
 ghost use Rattle.path.specs.Draw.{drawn, ended, drawRefused, drawAt};
 ghost use Rattle.reader.specs.Draws.{drawAnswer, stopBefore, drawOf, stepAt};
 
@@ -26,6 +29,17 @@ fn stop_drawn(stop: Stop) -> Drawn
     }
 }
 
+// The stop of zeros, in an answer that is no stop.
+fn no_stop() -> Stop
+    ensures { λ r. ⌜ r ≡ zeroStop ⌝ }
+{
+    Stop {
+        at: [0, 0, 0],
+        speed: 0,
+        blend: 0,
+    }
+}
+
 // The answer of an end that was found.
 fn end_drawn() -> Drawn
     ensures { λ r. ⌜ r ≡ drawAnswer ended ⌝ }
@@ -33,11 +47,7 @@ fn end_drawn() -> Drawn
     Drawn {
         verdict: THE_END,
         number: 0,
-        stop: Stop {
-            at: [0, 0, 0],
-            speed: 0,
-            blend: 0,
-        },
+        stop: no_stop(),
     }
 }
 
@@ -48,11 +58,7 @@ fn refusal_drawn(number: u16) -> Drawn
     Drawn {
         verdict: A_REFUSAL,
         number,
-        stop: Stop {
-            at: [0, 0, 0],
-            speed: 0,
-            blend: 0,
-        },
+        stop: no_stop(),
     }
 }
 
@@ -60,17 +66,16 @@ fn refusal_drawn(number: u16) -> Drawn
 fn stop_before(version: u16, at: usize) -> usize
     ensures { λ r. ⌜ r ≡ stopBefore version at ⌝ }
 {
-    if at < 8 {
+    if at < HEAD_SIZE {
         return 0;
     }
-    (at - 8) / stop_size(version)
+    (at - HEAD_SIZE) / stop_size(version)
 }
 
-// The draw at stop i of a path whose head was judged.
-fn draw_of(bytes: &[u8], version: u16, k: u16, i: usize) -> Drawn
-    ensures { λ r. ⌜ r ≡ drawAnswer (drawOf (now (bytes .entry)) version k i) ⌝ }
+// The draw at stop i of a path of `count` stops.
+fn draw_of(bytes: &[u8], version: u16, count: usize, i: usize) -> Drawn
+    ensures { λ r. ⌜ r ≡ drawAnswer (drawOf (atEntry bytes) version count i) ⌝ }
 {
-    let count = stop_count(k);
     if i < count {
         let refused = judge_stop(bytes, version, i);
         if refused != 0 {
@@ -88,7 +93,7 @@ fn draw_of(bytes: &[u8], version: u16, k: u16, i: usize) -> Drawn
 // One draw from a cursor by a reader that knows versions up to `version`. The head is judged at each draw, so that no cursor and no
 // version is taken on trust.
 pub fn draw_at(bytes: &[u8], at: usize, version: u16) -> Step
-    ensures { λ r. ⌜ r ≡ stepAt (now (bytes .entry)) at version ⌝ }
+    ensures { λ r. ⌜ r ≡ stepAt (atEntry bytes) at version ⌝ }
 {
     let head = judge_head(bytes, version);
     let refused = head.refused;
@@ -102,20 +107,20 @@ pub fn draw_at(bytes: &[u8], at: usize, version: u16) -> Step
         };
     }
     let i = stop_before(path, at);
-    let drawn = draw_of(bytes, path, k, i);
+    let drawn = draw_of(bytes, path, stop_count(k), i);
     if drawn.verdict != A_STOP {
         return Step { drawn, at, version };
     }
     Step {
         drawn,
-        at: 8 + (i + 1) * stop_size(path),
+        at: HEAD_SIZE + (i + 1) * stop_size(path),
         version: path,
     }
 }
 
 // Draw d, counted from 0, from path bytes by a reader that knows versions up to `highest`.
 pub fn draw_number(bytes: &[u8], highest: u16, d: usize) -> Drawn
-    ensures { λ r. ⌜ r ≡ drawAnswer (drawAt (now (bytes .entry)) highest d) ⌝ }
+    ensures { λ r. ⌜ r ≡ drawAnswer (drawAt (atEntry bytes) highest d) ⌝ }
 {
     let mut step = draw_at(bytes, 0, highest);
     for _i in 0..d {

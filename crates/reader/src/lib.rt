@@ -9,7 +9,8 @@ pub use draws::draw_at;
 pub use draws::draw_number;
 use stop::Stop;
 ghost use mathlib.Core.Path.{_≡_};
-ghost use Rattle.reader.specs.Draws.{stepAt, opened, nextStep, moved};
+ghost use Rattle.base.specs.Buffer.{atEntry};
+ghost use Rattle.reader.specs.Draws.{stepAt, opened, DrawsNext};
 
 // The verdict of an answer that is a stop.
 pub const A_STOP: u16 = 0;
@@ -55,7 +56,7 @@ pub fn open<'a>(bytes: &'a [u8], highest: u16) -> Reader<'a>
 
 // The next draw. The reader is left where the draw after it begins.
 pub fn draw<'s, 'a>(r: &'s mut Reader<'a>) -> Drawn
-    ensures { λ d. ⌜ (d ≡ nextStep (now (r .entry)) .drawn) × (now (r .exit) ≡ moved (now (r .entry)) (nextStep (now (r .entry)))) ⌝ }
+    ensures { λ d. ⌜ DrawsNext r d ⌝ }
 {
     let step = draw_at(r.src, r.at, r.version);
     r.at = step.at;
@@ -65,7 +66,7 @@ pub fn draw<'s, 'a>(r: &'s mut Reader<'a>) -> Drawn
 
 // One draw by a reader that stands at a cursor, and where it stands then, for callers that hold no reader.
 pub fn draw_from(bytes: &[u8], at: usize, version: u16) -> Step
-    ensures { λ r. ⌜ r ≡ stepAt (now (bytes .entry)) at version ⌝ }
+    ensures { λ r. ⌜ r ≡ stepAt (atEntry bytes) at version ⌝ }
 {
     let mut r = Reader {
         src: bytes,

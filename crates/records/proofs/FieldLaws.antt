@@ -11,20 +11,20 @@ use lib.IntN.{ℤ, pos, negsuc, natAbs}
 use lib.ListN.{length, take, drop, getD}
 use borrow.Author.Tests.{lt-ltb, le-ltb, ltb-true}
 use Rattle.base.proofs.Bools.{both}
-use Rattle.records.specs.Field.{number, bytesOf, areBytes, signed, unsigned}
+use Rattle.records.specs.Field.{numberOf, bytesOf, areBytes, signed, unsigned}
 
 -- ---- the number of bytes
 
-pub number-nil : number [] ≡ 0
-unfolding number
+pub number-nil : numberOf [] ≡ 0
+unfolding numberOf
 number-nil = refl
 
-pub number-cons : (b : ℕ) (s : List ℕ) → number (b ∷ s) ≡ b + 256 * number s
-unfolding number
+pub number-cons : (b : ℕ) (s : List ℕ) → numberOf (b ∷ s) ≡ b + 256 * numberOf s
+unfolding numberOf
 number-cons b s = refl
 
 -- the first byte alone, 0 where there is none
-pub number-first : (s : List ℕ) → number (take 1 s) ≡ getD s 0 0
+pub number-first : (s : List ℕ) → numberOf (take 1 s) ≡ getD s 0 0
 number-first [] = number-nil
 number-first (b ∷ s) = rw (number-cons, number-nil) (omega arith)
 
@@ -33,16 +33,16 @@ pow-pos zero = rw pow-zero (omega arith)
 pow-pos (suc w) = let h : 0 < 256 ^ w = pow-pos w in rw pow-succ' (omega arith)
 
 -- a field of two parts: the first part's number, and the second's above it
-pub number-parts : (w v : ℕ) (s : List ℕ) → number (take (w + v) s) ≡ number (take w s) + 256 ^ w * number (take v (drop w s))
+pub number-parts : (w v : ℕ) (s : List ℕ) → numberOf (take (w + v) s) ≡ numberOf (take w s) + 256 ^ w * numberOf (take v (drop w s))
 number-parts zero v s = rw (zero-add, number-nil, pow-zero, one-mul, zero-add)
 number-parts (suc w) v [] = rw (suc-add, number-nil) (none v)
   where
-    none : (v : ℕ) → 0 ≡ 0 + 256 ^ suc w * number (take v [])
+    none : (v : ℕ) → 0 ≡ 0 + 256 ^ suc w * numberOf (take v [])
     none zero = rw (number-nil, mul-zero)
     none (suc v) = rw (number-nil, mul-zero)
 number-parts (suc w) v (b ∷ s) =
-    let rest : number (take (w + v) s) ≡ number (take w s) + 256 ^ w * number (take v (drop w s)) = number-parts w v s in
-    let over : 256 * 256 ^ w * number (take v (drop w s)) ≡ 256 * (256 ^ w * number (take v (drop w s))) = mul-assoc 256 (256 ^ w) _ in
+    let rest : numberOf (take (w + v) s) ≡ numberOf (take w s) + 256 ^ w * numberOf (take v (drop w s)) = number-parts w v s in
+    let over : 256 * 256 ^ w * numberOf (take v (drop w s)) ≡ 256 * (256 ^ w * numberOf (take v (drop w s))) = mul-assoc 256 (256 ^ w) _ in
     rw (suc-add, number-cons, number-cons, pow-succ') (omega arith)
 
 -- ---- the bytes of a number
@@ -74,15 +74,15 @@ bytesOf-mod (suc w) x =
     let high : x % 256 ^ suc w / 256 ≡ x / 256 % 256 ^ w = omega arith in
     rw (bytesOf-suc, bytesOf-suc, low, high, bytesOf-mod w (x / 256))
 
-pub number-bytesOf-mod : (w x : ℕ) → number (bytesOf w x) ≡ x % 256 ^ w
+pub number-bytesOf-mod : (w x : ℕ) → numberOf (bytesOf w x) ≡ x % 256 ^ w
 number-bytesOf-mod zero x = rw (bytesOf-zero, number-nil, pow-zero, mod-one)
 number-bytesOf-mod (suc w) x =
     let whole : x % 256 ^ suc w ≡ (x / 256 % 256 ^ w) * 256 + x % 256 = rw (pow-succ', mul-comm 256 (256 ^ w)) (mod-mul x (pow-pos w) (omega arith)) in
-    let rest : number (bytesOf w (x / 256)) ≡ x / 256 % 256 ^ w = number-bytesOf-mod w (x / 256) in
+    let rest : numberOf (bytesOf w (x / 256)) ≡ x / 256 % 256 ^ w = number-bytesOf-mod w (x / 256) in
     rw (bytesOf-suc, number-cons) (omega arith)
 
 -- reading what was written
-pub number-bytesOf : (w x : ℕ) → x < 256 ^ w → number (bytesOf w x) ≡ x
+pub number-bytesOf : (w x : ℕ) → x < 256 ^ w → numberOf (bytesOf w x) ≡ x
 number-bytesOf w x h = number-bytesOf-mod w x ∙ mod-eq-of-lt h
 
 pub areBytes-nil : areBytes [] ≡ true
@@ -100,12 +100,12 @@ pub areBytes-tail : (b : ℕ) (s : List ℕ) → areBytes (b ∷ s) ≡ true →
 areBytes-tail b s h = both (ltb b 256) (areBytes s) (sym (areBytes-cons b s) ∙ h) .1
 
 -- writing what was read
-pub bytesOf-number : (s : List ℕ) → areBytes s ≡ true → bytesOf (length s) (number s) ≡ s
-bytesOf-number [] h = bytesOf-zero (number [])
+pub bytesOf-number : (s : List ℕ) → areBytes s ≡ true → bytesOf (length s) (numberOf s) ≡ s
+bytesOf-number [] h = bytesOf-zero (numberOf [])
 bytesOf-number (b ∷ s) h =
     let hb : b < 256 = areBytes-head b s h in
-    let low : (b + 256 * number s) % 256 ≡ b = omega arith in
-    let high : (b + 256 * number s) / 256 ≡ number s = omega arith in
+    let low : (b + 256 * numberOf s) % 256 ≡ b = omega arith in
+    let high : (b + 256 * numberOf s) / 256 ≡ numberOf s = omega arith in
     rw (bytesOf-suc, number-cons, low, high, bytesOf-number s (areBytes-tail b s h))
 
 pub areBytes-bytesOf : (w x : ℕ) → areBytes (bytesOf w x) ≡ true
@@ -115,11 +115,11 @@ areBytes-bytesOf (suc w) x =
     rw (bytesOf-suc, areBytes-cons, lt-ltb _ _ h) (areBytes-bytesOf w (x / 256))
 
 -- the number of bytes fits their count
-pub number-lt : (s : List ℕ) → areBytes s ≡ true → number s < 256 ^ length s
+pub number-lt : (s : List ℕ) → areBytes s ≡ true → numberOf s < 256 ^ length s
 number-lt [] h = rw (number-nil, pow-zero) (omega arith)
 number-lt (b ∷ s) h =
     let hb : b < 256 = areBytes-head b s h in
-    let rest : number s < 256 ^ length s = number-lt s (areBytes-tail b s h) in
+    let rest : numberOf s < 256 ^ length s = number-lt s (areBytes-tail b s h) in
     rw (number-cons, pow-succ') (omega arith)
 
 -- ---- two's complement

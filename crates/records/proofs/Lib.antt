@@ -3,5 +3,6 @@ pub mod FieldLaws
 pub mod LengthLaws
 pub mod PutLaws
 pub mod RecordLaws
+pub mod Numbers
 mod SignedLaws
 mod Table

@@ -7,9 +7,9 @@ use lib.ListN.{take, drop}
 use lib.IntN.{ℤ, pos, negsuc}
 
 -- the number that bytes spell, least byte first
-unfoldable pub number : List ℕ → ℕ
-number [] = 0
-number (b ∷ s) = b + 256 * number s
+unfoldable pub numberOf : List ℕ → ℕ
+numberOf [] = 0
+numberOf (b ∷ s) = b + 256 * numberOf s
 
 -- the bytes of a field of some width that holds a number, least byte first
 unfoldable pub bytesOf : (width value : ℕ) → List ℕ
@@ -19,7 +19,7 @@ bytesOf (suc w) x = x % 256 ∷ bytesOf w (x / 256)
 -- the numbers of fields that stand one after the other, by their widths
 unfoldable pub readFields : (widths s : List ℕ) → List ℕ
 readFields [] s = []
-readFields (w ∷ ws) s = number (take w s) ∷ readFields ws (drop w s)
+readFields (w ∷ ws) s = numberOf (take w s) ∷ readFields ws (drop w s)
 
 -- the bytes of fields one after the other, by their widths: a number that is not there counts as 0, and one too many is left out
 unfoldable pub writeFields : (widths values : List ℕ) → List ℕ

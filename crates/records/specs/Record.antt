@@ -2,10 +2,11 @@
 use mathlib.Core.Bool.{Bool, cond, _&&_}
 use mathlib.Core.List.{List, [], _∷_, _++_}
 use Prim.Native.Nat.{ℕ, _+_, _-_, _*_, _/_}
-use lib.Dec.{leb, ltb, eqb}
+use lib.Dec.{leb, eqb}
 use lib.ListN.{length, take, drop}
-use Rattle.base.specs.Refusal.{accepted, truncated, wrongLength, wrongKind}
-use Rattle.records.specs.Field.{number, bytesOf}
+use Rattle.base.specs.Refusal.{truncated, wrongLength, wrongKind}
+use Rattle.base.specs.Outcome.{Outcome, gives, need}
+use Rattle.records.specs.Field.{numberOf, bytesOf}
 
 -- the kinds of the table in 'Records': the head of a path,
 abbrev pub pathKind : ℕ
@@ -70,35 +71,31 @@ recordLength kind version n =
 unfoldable pub recordBytes : (kind : ℕ) (content : List ℕ) → List ℕ
 recordBytes kind content = bytesOf 2 (2 + length content) ++ bytesOf 2 kind ++ content
 
--- what stands at the front of bytes: a record's content and what comes after the record, or the refusal's number
-pub data Taken : Type 0 where
-  taken : (content rest : List ℕ) → Taken
-  refused : (number : ℕ) → Taken
+-- a record at the front of bytes: its content, and what comes after the record
+pub record Taken : Type 0 where
+  pub content : List ℕ
+  pub rest : List ℕ
+
+abbrev pub taken : (content rest : List ℕ) → Taken
+taken content rest = record { content = content; rest = rest }
 
 -- the length that the first two bytes say
 unfoldable pub lengthSaid : List ℕ → ℕ
-lengthSaid s = number (take 2 s)
+lengthSaid s = numberOf (take 2 s)
 
 -- the kind that the next two say
 unfoldable pub kindSaid : List ℕ → ℕ
-kindSaid s = number (take 2 (drop 2 s))
+kindSaid s = numberOf (take 2 (drop 2 s))
 
 -- 'not the kind due here': no other kind of the table, and no unknown number, is the one due
 unfoldable pub isDue : (due found : ℕ) → Bool
 isDue due found = isKind found && eqb due found
 
--- 'Each record: 4 bytes present (1), kind (3), length (2), bytes present (1)'
-unfoldable pub takeRecord : (kind long : ℕ) (s : List ℕ) → Taken
+-- the record at the front of bytes: 'Each record: 4 bytes present (1), kind (3), length (2), bytes present (1)'
+unfoldable pub takeRecord : (kind long : ℕ) (s : List ℕ) → Outcome Taken
 takeRecord kind long s =
-    cond (ltb (length s) 4) (refused truncated)
-    (cond (isDue kind (kindSaid s))
-    (cond (eqb (lengthSaid s) long)
-    (cond (leb (2 + long) (length s)) (taken (take (long - 2) (drop 4 s)) (drop (2 + long) s))
-    (refused truncated))
-    (refused wrongLength))
-    (refused wrongKind))
-
--- the number of what was found: a record has none
-unfoldable pub takenNumber : Taken → ℕ
-takenNumber (taken content rest) = accepted
-takenNumber (refused number) = number
+    need (leb 4 (length s)) truncated
+    (need (isDue kind (kindSaid s)) wrongKind
+    (need (eqb (lengthSaid s) long) wrongLength
+    (need (leb (2 + long) (length s)) truncated
+    (gives (taken (take (long - 2) (drop 4 s)) (drop (2 + long) s))))))

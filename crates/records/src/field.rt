@@ -3,7 +3,7 @@ ghost use mathlib.Core.Path.{_≡_};
 ghost use mathlib.Core.List.{_++_};
 ghost use Prim.Native.Nat.{_<_};
 ghost use lib.ListN.{take, drop};
-ghost use Rattle.records.specs.Field.{number, bytesOf, signed, unsigned};
+ghost use Rattle.records.specs.Field.{numberOf, bytesOf, signed, unsigned};
 ghost use Rattle.records.specs.Put.{put};
 
 // The bytes from `at` on: none where `at` is past the end.
@@ -20,7 +20,7 @@ pub fn after(s: &[u8], at: usize) -> &[u8]
 
 // The first byte, or 0 where there is none.
 fn first8(s: &[u8]) -> u64
-    ensures { λ r. ⌜ (r ≡ number (take 1 (now (s .entry)))) × (r < 256) ⌝ }
+    ensures { λ r. ⌜ (r ≡ numberOf (take 1 (now (s .entry)))) × (r < 256) ⌝ }
 {
     if s.len() == 0 {
         return 0;
@@ -30,42 +30,35 @@ fn first8(s: &[u8]) -> u64
 
 // The number of the first two bytes.
 fn first16(s: &[u8]) -> u64
-    ensures { λ r. ⌜ (r ≡ number (take 2 (now (s .entry)))) × (r < 65536) ⌝ }
+    ensures { λ r. ⌜ (r ≡ numberOf (take 2 (now (s .entry)))) × (r < 65536) ⌝ }
 {
     first8(s) + 256 * first8(after(s, 1))
 }
 
 // The number of the first four bytes.
 fn first32(s: &[u8]) -> u64
-    ensures { λ r. ⌜ (r ≡ number (take 4 (now (s .entry)))) × (r < 4294967296) ⌝ }
+    ensures { λ r. ⌜ (r ≡ numberOf (take 4 (now (s .entry)))) × (r < 4294967296) ⌝ }
 {
     first16(s) + 65536 * first16(after(s, 2))
 }
 
 // The 2-byte field at `at`.
 pub fn field16(s: &[u8], at: usize) -> u16
-    ensures { λ r. ⌜ r ≡ number (take 2 (drop at (now (s .entry)))) ⌝ }
+    ensures { λ r. ⌜ r ≡ numberOf (take 2 (drop at (now (s .entry)))) ⌝ }
 {
     first16(after(s, at)) as u16
 }
 
-// The 4-byte field at `at`.
-pub fn field32(s: &[u8], at: usize) -> u32
-    ensures { λ r. ⌜ r ≡ number (take 4 (drop at (now (s .entry)))) ⌝ }
-{
-    first32(after(s, at)) as u32
-}
-
 // The 8-byte field at `at`.
 pub fn field64(s: &[u8], at: usize) -> u64
-    ensures { λ r. ⌜ r ≡ number (take 8 (drop at (now (s .entry)))) ⌝ }
+    ensures { λ r. ⌜ r ≡ numberOf (take 8 (drop at (now (s .entry)))) ⌝ }
 {
     let t = after(s, at);
     first32(t) + 4294967296 * first32(after(t, 4))
 }
 
 // What a number of four bytes means by two's complement. The second arm is -1 - (2^32 - 1 - u).
-fn to_signed(u: u32) -> i32
+pub fn to_signed(u: u32) -> i32
     ensures { λ r. ⌜ r ≡ signed u ⌝ }
 {
     if u < 0x8000_0000 {
@@ -73,13 +66,6 @@ fn to_signed(u: u32) -> i32
     } else {
         !((0xFFFF_FFFF - u) as i32)
     }
-}
-
-// The signed 4-byte field at `at`.
-pub fn signed_field(s: &[u8], at: usize) -> i32
-    ensures { λ r. ⌜ r ≡ signed (number (take 4 (drop at (now (s .entry))))) ⌝ }
-{
-    to_signed(field32(s, at))
 }
 
 // The number of four bytes that means `x`.
@@ -107,7 +93,7 @@ pub fn put16(s: &mut [u8], at: usize, value: u16)
 }
 
 // Writes a 4-byte field at `at`, or nothing where it does not fit whole.
-pub fn put32(s: &mut [u8], at: usize, value: u32)
+fn put32(s: &mut [u8], at: usize, value: u32)
     ensures { λ r. ⌜ now (s .exit) ≡ put (now (s .entry)) at (bytesOf 4 value) ⌝ }
 {
     if s.len() < 4 {

@@ -6,17 +6,14 @@ mod record;
 
 pub use field::after;
 pub use field::field16;
-pub use field::field32;
 pub use field::field64;
 pub use field::put_pair;
 pub use field::put_signed;
 pub use field::put16;
-pub use field::put32;
 pub use field::put64;
-pub use field::signed_field;
+pub use field::to_signed;
 pub use record::END;
 pub use record::FORKS;
-pub use record::LENGTHS;
 pub use record::ORDER;
 pub use record::PATH;
 pub use record::REFUSED;

@@ -6,7 +6,8 @@ use base::WRONG_KIND;
 use base::WRONG_LENGTH;
 ghost use mathlib.Core.Path.{_≡_};
 ghost use lib.ListN.{drop};
-ghost use Rattle.records.specs.Record.{recordLength, isDue, takeRecord, takenNumber};
+ghost use Rattle.base.specs.Outcome.{number};
+ghost use Rattle.records.specs.Record.{recordLength, isDue, takeRecord};
 
 // The kinds.
 pub const PATH: u16 = 1;
@@ -24,7 +25,7 @@ pub const FORKS: u16 = 6;
 pub const REFUSED: u16 = 7;
 
 // The lengths that records say, without the part for n of kinds 5 and 6: two for each kind, for version 4 and for version 5.
-pub const LENGTHS: [usize; 16] = [0, 0, 6, 6, 16, 18, 2, 2, 4, 4, 10, 10, 2, 2, 4, 4];
+const LENGTHS: [usize; 16] = [0, 0, 6, 6, 16, 18, 2, 2, 4, 4, 10, 10, 2, 2, 4, 4];
 
 // The length that a record of a kind and version says, without the part for n of kinds 5 and 6; 0 for no kind.
 pub fn record_length(kind: u16, version: u16) -> usize
@@ -59,7 +60,7 @@ fn is_due(due: u16, found: u16) -> bool
 
 // 0 where a record of a kind and length stands at `at`, and otherwise the refusal's number.
 pub fn judge_record(s: &[u8], at: usize, kind: u16, long: usize) -> u16
-    ensures { λ r. ⌜ r ≡ takenNumber (takeRecord kind long (drop at (now (s .entry)))) ⌝ }
+    ensures { λ r. ⌜ r ≡ number (takeRecord kind long (drop at (now (s .entry)))) ⌝ }
 {
     let t = after(s, at);
     if t.len() < 4 {

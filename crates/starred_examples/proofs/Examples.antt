@@ -5,14 +5,14 @@ use Prim.Native.Nat.{ℕ, _<_}
 use lib.ListN.{length, getD}
 use Rattle.walks.specs.Prefer.{lexb, beforeb}
 use Rattle.walks.specs.Places.{stopsTo}
-use Rattle.stop.specs.Time.{gap, distance, roundUp, travel, time, timeBetween}
+use Rattle.times.specs.Time.{gap, distance, roundUp, travel, time, timeBetween}
 use Rattle.times.specs.Table.{entryOf}
 use Rattle.tree.specs.Wanted.{wanted, bestOf, Shortest}
 use Rattle.orders.specs.Same.{alike}
 use Rattle.orders.specs.Allowed.{someSet, isAllowed}
-use Rattle.worked.specs.Example.{Example, Says, forkSet, isWanted, holds, allHold, Wrong, allTurnedDown}
-use Rattle.worked.specs.Listing.{starred, fourStops, wrongAnswers}
-use Rattle.worked.proofs.Sound.{all-sound, all-turned-down}
+use Rattle.starred_examples.specs.Example.{Example, Says, forkSet, isWanted, holds, allHold, Wrong, allTurnedDown}
+use Rattle.starred_examples.specs.Listing.{starred, fourStops, wrongAnswers}
+use Rattle.starred_examples.proofs.Sound.{all-sound, all-turned-down}
 
 -- every starred example passes its test
 starred-hold : allHold starred ≡ true

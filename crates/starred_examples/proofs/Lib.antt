@@ -1,3 +1,3 @@
--- The worked examples hold.
+-- The starred examples hold.
 pub mod Sound
 pub mod Examples

@@ -8,7 +8,7 @@ use lib.Dec.{eqb}
 use lib.ListN.{length, getD}
 use borrow.Author.Tests.{eqb-true, eq-eqb, not-true}
 use Rattle.stop.specs.declared.Stop.{Stop}
-use Rattle.stop.specs.Time.{distance, time}
+use Rattle.times.specs.Time.{distance, time}
 use Rattle.times.specs.Table.{entryOf}
 use Rattle.tree.specs.Order.{orderOf}
 use Rattle.tree.specs.Total.{entry, total}
@@ -19,7 +19,7 @@ use Rattle.orders.specs.Allowed.{isAllowed}
 use Rattle.base.proofs.Bools.{both}
 use Rattle.orders.proofs.Same.{alike-same, same-alike}
 use Rattle.orders.proofs.Allowed.{isAllowed-iff}
-use Rattle.worked.specs.Example.{Example, planned, toured, barred, timed, forkSet, Says, isWanted, holds, allHold, Wrong, allTurnedDown}
+use Rattle.starred_examples.specs.Example.{Example, planned, plannedFor, barred, timed, forkSet, Says, isWanted, holds, allHold, Wrong, allTurnedDown}
 
 -- an order and a total that pass the test meet demand 3
 pub wanted-passes : (k : ℕ) (t : ℕ → ℕ → ℕ) (order : List ℕ) (sum : ℕ) → isWanted k t order sum ≡ true → Shortest k t order sum
@@ -39,7 +39,7 @@ passes-wanted k t order sum s =
 pub sound : (e : Example) → holds e ≡ true → Says e
 unfolding holds
 sound (planned k table order sum) h = wanted-passes k (entry (2 ^ k) table) order sum h
-sound (toured k stops order sum unturned forks) h =
+sound (plannedFor k stops order sum unturned forks) h =
     let w = isWanted k (entryOf stops) order sum in
     let u = eqb (total (entryOf stops) (orderOf k 0)) unturned in
     let a = both (w && u) (alike (orderOf k (forkSet forks)) order) h in

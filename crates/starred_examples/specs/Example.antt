@@ -1,11 +1,11 @@
--- A worked example: what it says, and a test that computes whether it is so.
+-- A starred example: what it says, and a test that computes whether it is so.
 use mathlib.Core.Path.{_≡_}
 use mathlib.Core.Bool.{Bool, true, not, _&&_}
 use mathlib.Core.List.{List, [], _∷_}
 use Prim.Native.Nat.{ℕ, _+_, _^_}
 use lib.Dec.{eqb}
 use Rattle.stop.specs.declared.Stop.{Stop}
-use Rattle.stop.specs.Time.{distance, time}
+use Rattle.times.specs.Time.{distance, time}
 use Rattle.times.specs.Table.{entryOf}
 use Rattle.tree.specs.Order.{orderOf, Allowed}
 use Rattle.tree.specs.Total.{entry, total}
@@ -18,7 +18,7 @@ pub data Example : Type 0 where
   -- by a table of 2^k rows: the wanted order and its total
   planned : (k : ℕ) (table order : List ℕ) (sum : ℕ) → Example
   -- by the travel times of stops: the wanted order and its total, the unturned order's total, and the exchanged forks
-  toured : (k : ℕ) (stops : List Stop) (order : List ℕ) (sum unturned : ℕ) (forks : List ℕ) → Example
+  plannedFor : (k : ℕ) (stops : List Stop) (order : List ℕ) (sum unturned : ℕ) (forks : List ℕ) → Example
   -- an order that is not allowed
   barred : (k : ℕ) (order : List ℕ) → Example
   -- a move: D and its time
@@ -32,7 +32,7 @@ forkSet (v ∷ vs) = 2 ^ v + forkSet vs
 -- what an example says: demand 3 of an order and its total; that no set of forks gives an order; D and the time of a move
 abbrev pub Says : Example → Type 0
 Says (planned k table order sum) = Shortest k (entry (2 ^ k) table) order sum
-Says (toured k stops order sum unturned forks) =
+Says (plannedFor k stops order sum unturned forks) =
     Shortest k (entryOf stops) order sum × (total (entryOf stops) (orderOf k 0) ≡ unturned) × (orderOf k (forkSet forks) ≡ order)
 Says (barred k order) = Allowed k order → ⊥
 Says (timed from to d ms) = (distance from to ≡ d) × (time from to ≡ ms)
@@ -44,7 +44,7 @@ isWanted k t order sum = alike (wanted k t) order && eqb (total t (wanted k t)) 
 -- whether an example is so, by plain enumeration
 unfoldable pub holds : Example → Bool
 holds (planned k table order sum) = isWanted k (entry (2 ^ k) table) order sum
-holds (toured k stops order sum unturned forks) =
+holds (plannedFor k stops order sum unturned forks) =
     isWanted k (entryOf stops) order sum && eqb (total (entryOf stops) (orderOf k 0)) unturned && alike (orderOf k (forkSet forks)) order
 holds (barred k order) = not (isAllowed k order)
 holds (timed from to d ms) = eqb (distance from to) d && eqb (time from to) ms

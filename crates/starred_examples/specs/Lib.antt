@@ -1,3 +1,3 @@
--- The worked examples of document 01.
+-- The ten starred examples of document 01.
 pub mod Example
 pub mod Listing

@@ -1,1 +1,1 @@
-// The worked examples of document 01, proved from the definitions: no code.
+// The ten starred examples of document 01, proved from the definitions: no code.

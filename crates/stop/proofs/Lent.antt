@@ -8,26 +8,28 @@ use native.Mathlib.Nat.{le-of-suc-le-suc, not-suc-le-zero}
 use native.Mathlib.Numerals.{one-add}
 use native.Mathlib.Omega.{arith}
 use lib.Dec.{leb}
-use lib.ListN.{length, getD, take, drop, length-map, List·getD-eq-default}
+use lib.ListN.{length, getD, take, drop, length-map, length-drop, List·getD-eq-default}
 use lib.Seq.{getD-drop}
 use lib.IntN.{ℤ, pos}
 use borrow.Author.Tests.{leb-true}
+use Rattle.base.specs.Refusal.{outOfRange, wrongSize}
+use Rattle.base.specs.Outcome.{gives, number, over}
 use Rattle.base.proofs.Bools.{and-left, and-right}
+use Rattle.base.proofs.Outcome.{passed}
 use Rattle.stop.specs.declared.Stop.{Stop}
-use Rattle.stop.specs.Stop.{inRange, coordinate, zeroStop}
+use Rattle.stop.specs.Stop.{inRange, zeroStop}
 use Rattle.base.specs.Lists.{tabulate}
-use Rattle.stop.specs.Lent.{pointAt, stopAt, lentStops, coordsOf, speedsOf, blendsOf, allInRange, stopsFit, judgeAll, judgeLent}
+use Rattle.stop.specs.Lent.{LentStops, buffers, overStops, pointAt, stopAt, firstStops, coordsOf, speedsOf, blendsOf, allInRange, stopsFit, judgeAll, judgeLent, Judged}
 use Rattle.base.proofs.Lists.{length-tabulate, getD-tabulate, tabulate-cong, tabulate-getD, map-tabulate}
-use Rattle.stop.proofs.Verdict.{test-passed, rest-passed}
-use Rattle.stop.proofs.Limits.{Good, good}
+use Rattle.stop.proofs.Limits.{good}
 
 -- ---- how many, and which
 
-pub length-lent : (n : ℕ) (coords : List ℤ) (speeds blends : List ℕ) → length (lentStops n coords speeds blends) ≡ n
-length-lent n coords speeds blends = length-tabulate n (stopAt coords speeds blends)
+pub length-first : (n : ℕ) (lent : LentStops) → length (firstStops n lent) ≡ n
+length-first n lent = length-tabulate n (stopAt lent)
 
-pub getD-lent : (n : ℕ) (coords : List ℤ) (speeds blends : List ℕ) (i : ℕ) (d : Stop) → i < n → getD (lentStops n coords speeds blends) i d ≡ stopAt coords speeds blends i
-getD-lent n coords speeds blends i d h = getD-tabulate n (stopAt coords speeds blends) i d h
+pub getD-first : (n : ℕ) (lent : LentStops) (i : ℕ) (d : Stop) → i < n → getD (firstStops n lent) i d ≡ stopAt lent i
+getD-first n lent i d h = getD-tabulate n (stopAt lent) i d h
 
 -- a point past the buffer's end is all 0
 pub point-beyond : (coords : List ℤ) (i : ℕ) → length coords ≤ i → pointAt coords i ≡ pos 0 ∷ pos 0 ∷ pos 0 ∷ []
@@ -36,17 +38,23 @@ point-beyond coords i h =
     let beyond : (k : ℕ) → i ≤ k → getD coords k (pos 0) ≡ pos 0 = λ k l. List·getD-eq-default coords (pos 0) (omega arith) in
     rw (beyond (3 * i + 1) (omega arith), beyond (3 * i + 2) (omega arith), beyond (3 * i) (omega arith))
 
--- the stops after the first, without the first places
-pub stopAt-drop : (coords : List ℤ) (speeds blends : List ℕ) (i : ℕ) → stopAt coords speeds blends (suc i) ≡ stopAt (drop 3 coords) (drop 1 speeds) (drop 1 blends) i
+-- the buffers without the first stop
+abbrev pub afterFirst : LentStops → LentStops
+afterFirst lent = record { coords = drop 3 (lent .coords); speeds = drop 1 (lent .speeds); blends = drop 1 (lent .blends) }
+
+pub stopAt-suc : (lent : LentStops) (i : ℕ) → stopAt lent (suc i) ≡ stopAt (afterFirst lent) i
 unfolding stopAt pointAt
-stopAt-drop coords speeds blends i =
+stopAt-suc lent i =
+    let coords = lent .coords in
     let next : (k m : ℕ) → k ≡ 3 + m → getD coords k (pos 0) ≡ getD (drop 3 coords) m (pos 0) = λ k m e. ap (λ (p : ℕ). getD coords p (pos 0)) e ∙ sym (getD-drop 3 coords m (pos 0)) in
-    let x : getD coords (3 * suc i) (pos 0) ≡ getD (drop 3 coords) (3 * i) (pos 0) = next (3 * suc i) (3 * i) (omega arith) in
-    let y : getD coords (3 * suc i + 1) (pos 0) ≡ getD (drop 3 coords) (3 * i + 1) (pos 0) = next (3 * suc i + 1) (3 * i + 1) (omega arith) in
-    let z : getD coords (3 * suc i + 2) (pos 0) ≡ getD (drop 3 coords) (3 * i + 2) (pos 0) = next (3 * suc i + 2) (3 * i + 2) (omega arith) in
-    let speed : getD speeds (suc i) 0 ≡ getD (drop 1 speeds) i 0 = ap (λ (p : ℕ). getD speeds p 0) (sym (one-add i)) ∙ sym (getD-drop 1 speeds i 0) in
-    let blend : getD blends (suc i) 0 ≡ getD (drop 1 blends) i 0 = ap (λ (p : ℕ). getD blends p 0) (sym (one-add i)) ∙ sym (getD-drop 1 blends i 0) in
-    cc
+    let one : (l : List ℕ) → getD l (suc i) 0 ≡ getD (drop 1 l) i 0 = λ l. ap (λ (p : ℕ). getD l p 0) (sym (one-add i)) ∙ sym (getD-drop 1 l i 0) in
+    rw (
+      next (3 * suc i) (3 * i) (omega arith),
+      next (3 * suc i + 1) (3 * i + 1) (omega arith),
+      next (3 * suc i + 2) (3 * i + 2) (omega arith),
+      one (lent .speeds),
+      one (lent .blends),
+    )
 
 -- ---- buffers made of stops
 
@@ -64,56 +72,68 @@ unfolding blendsOf
 length-blendsOf ss = length-map ss (λ (s : Stop). s .blend)
 
 -- a list of three is its three elements
-three-is : (l : List ℤ) → length l ≡ 3 → getD l 0 (pos 0) ∷ getD l 1 (pos 0) ∷ getD l 2 (pos 0) ∷ [] ≡ l
+pub three-is : (l : List ℤ) → length l ≡ 3 → getD l 0 (pos 0) ∷ getD l 1 (pos 0) ∷ getD l 2 (pos 0) ∷ [] ≡ l
 three-is [] e = absurd (omega arith)
 three-is (x ∷ []) e = absurd (omega arith)
 three-is (x ∷ y ∷ []) e = absurd (omega arith)
 three-is (x ∷ y ∷ z ∷ []) e = refl
 three-is (x ∷ y ∷ z ∷ w ∷ l) e = absurd (omega arith)
 
--- the first stop of buffers that begin with it
-first-stop : (s : Stop) (coords : List ℤ) (speeds blends : List ℕ) → length (s .at) ≡ 3 → stopAt (coordinate s 0 ∷ coordinate s 1 ∷ coordinate s 2 ∷ coords) (s .speed ∷ speeds) (s .blend ∷ blends) 0 ≡ s
-unfolding stopAt pointAt
-first-stop s coords speeds blends e =
+-- buffers that begin with these stops
+abbrev pub begins : List Stop → LentStops → LentStops
+begins ss rest = record { coords = coordsOf ss ++ rest .coords; speeds = speedsOf ss ++ rest .speeds; blends = blendsOf ss ++ rest .blends }
+
+first-stop : (s : Stop) (ss : List Stop) (rest : LentStops) → length (s .at) ≡ 3 → stopAt (begins (s ∷ ss) rest) 0 ≡ s
+unfolding coordsOf speedsOf blendsOf stopAt pointAt
+first-stop s ss rest e =
     ap (λ (l : List ℤ). record { at = l; speed = s .speed; blend = s .blend }) (three-is (s .at) e)
 
--- buffers that hold stops in range, with anything after them, give those stops
-pub lent-of : (ss : List Stop) (coords : List ℤ) (speeds blends : List ℕ) → allInRange ss ≡ true → lentStops (length ss) (coordsOf ss ++ coords) (speedsOf ss ++ speeds) (blendsOf ss ++ blends) ≡ ss
-unfolding coordsOf speedsOf blendsOf allInRange
-lent-of [] coords speeds blends g = refl
-lent-of (s ∷ ss) coords speeds blends g =
-    let here : Good s = good s (and-left (inRange s) (allInRange ss) g) in
-    rw (first-stop s (coordsOf ss ++ coords) (speedsOf ss ++ speeds) (blendsOf ss ++ blends) (here .three))
+later-stop : (s : Stop) (ss : List Stop) (rest : LentStops) (i : ℕ) → stopAt (begins (s ∷ ss) rest) (suc i) ≡ stopAt (begins ss rest) i
+unfolding coordsOf speedsOf blendsOf
+later-stop s ss rest i = stopAt-suc (begins (s ∷ ss) rest) i
+
+-- they give those stops where these are in range
+pub first-begins : (ss : List Stop) (rest : LentStops) → allInRange ss ≡ true → firstStops (length ss) (begins ss rest) ≡ ss
+unfolding allInRange
+first-begins [] rest g = refl
+first-begins (s ∷ ss) rest g =
+    rw (first-stop s ss rest (good s (and-left (inRange s) (allInRange ss) g) .three))
     (ap (λ (l : List Stop). s ∷ l)
-    (tabulate-cong (length ss)
-    (λ i. stopAt (coordinate s 0 ∷ coordinate s 1 ∷ coordinate s 2 ∷ (coordsOf ss ++ coords)) (s .speed ∷ (speedsOf ss ++ speeds)) (s .blend ∷ (blendsOf ss ++ blends)) (suc i))
-    (stopAt (coordsOf ss ++ coords) (speedsOf ss ++ speeds) (blendsOf ss ++ blends))
-    (λ i h. stopAt-drop (coordinate s 0 ∷ coordinate s 1 ∷ coordinate s 2 ∷ (coordsOf ss ++ coords)) (s .speed ∷ (speedsOf ss ++ speeds)) (s .blend ∷ (blendsOf ss ++ blends)) i)
-    ∙ lent-of ss coords speeds blends (and-right (inRange s) (allInRange ss) g)))
+    (tabulate-cong (length ss) (λ i. stopAt (begins (s ∷ ss) rest) (suc i)) (stopAt (begins ss rest)) (λ i h. later-stop s ss rest i)
+    ∙ first-begins ss rest (and-right (inRange s) (allInRange ss) g)))
+
+-- three buffers that stops were written over
+pub over-buffers : (ss : List Stop) (lent : LentStops) (coords : List ℤ) (speeds blends : List ℕ) → coords ≡ over (coordsOf ss) (lent .coords) → speeds ≡ over (speedsOf ss) (lent .speeds) → blends ≡ over (blendsOf ss) (lent .blends) → buffers coords speeds blends ≡ overStops ss lent
+over-buffers ss lent coords speeds blends c s b = rw (c, s, b)
+
+-- they hold those stops
+pub over-first : (ss : List Stop) (lent : LentStops) → allInRange ss ≡ true → firstStops (length ss) (overStops ss lent) ≡ ss
+over-first ss lent g =
+    first-begins ss (buffers (drop (length (coordsOf ss)) (lent .coords)) (drop (length (speedsOf ss)) (lent .speeds)) (drop (length (blendsOf ss)) (lent .blends))) g
 
 -- ---- buffers made of lent stops are the first places of those buffers
 
-pub coordsOf-lent : (n : ℕ) (coords : List ℤ) (speeds blends : List ℕ) → 3 * n ≤ length coords → coordsOf (lentStops n coords speeds blends) ≡ take (3 * n) coords
+pub coordsOf-first : (n : ℕ) (lent : LentStops) → 3 * n ≤ length (lent .coords) → coordsOf (firstStops n lent) ≡ take (3 * n) (lent .coords)
 unfolding coordsOf stopAt pointAt
-coordsOf-lent zero coords speeds blends h = refl
-coordsOf-lent (suc n) [] speeds blends h = absurd (omega arith)
-coordsOf-lent (suc n) (x ∷ []) speeds blends h = absurd (omega arith)
-coordsOf-lent (suc n) (x ∷ y ∷ []) speeds blends h = absurd (omega arith)
-coordsOf-lent (suc n) (x ∷ y ∷ z ∷ coords) speeds blends h =
-    let rest : tabulate n (λ i. stopAt (x ∷ y ∷ z ∷ coords) speeds blends (suc i)) ≡ lentStops n coords (drop 1 speeds) (drop 1 blends) = tabulate-cong n (λ i. stopAt (x ∷ y ∷ z ∷ coords) speeds blends (suc i)) (stopAt coords (drop 1 speeds) (drop 1 blends)) (λ i k. stopAt-drop (x ∷ y ∷ z ∷ coords) speeds blends i) in
+coordsOf-first zero lent h = refl
+coordsOf-first (suc n) lent h =
+    let rest : tabulate n (λ i. stopAt lent (suc i)) ≡ firstStops n (afterFirst lent) = tabulate-cong n (λ i. stopAt lent (suc i)) (stopAt (afterFirst lent)) (λ i k. stopAt-suc lent i) in
     let more : 3 * suc n ≡ suc (suc (suc (3 * n))) = omega arith in
-    ap (λ (l : List ℤ). x ∷ y ∷ z ∷ l) (ap coordsOf rest ∙ coordsOf-lent n coords (drop 1 speeds) (drop 1 blends) (omega arith))
-    ∙ ap (λ (k : ℕ). take k (x ∷ y ∷ z ∷ coords)) (sym more)
+    rw (rest, coordsOf-first n (afterFirst lent) (simp length-drop (omega arith)), more) (three-first (lent .coords) (3 * n) (omega arith))
+  where
+    three-first : (l : List ℤ) (m : ℕ) → 3 ≤ length l → getD l 0 (pos 0) ∷ getD l 1 (pos 0) ∷ getD l 2 (pos 0) ∷ take m (drop 3 l) ≡ take (suc (suc (suc m))) l
+    three-first [] m h = absurd (omega arith)
+    three-first (x ∷ []) m h = absurd (omega arith)
+    three-first (x ∷ y ∷ []) m h = absurd (omega arith)
+    three-first (x ∷ y ∷ z ∷ l) m h = refl
 
-pub speedsOf-lent : (n : ℕ) (coords : List ℤ) (speeds blends : List ℕ) → n ≤ length speeds → speedsOf (lentStops n coords speeds blends) ≡ take n speeds
+pub speedsOf-first : (n : ℕ) (lent : LentStops) → n ≤ length (lent .speeds) → speedsOf (firstStops n lent) ≡ take n (lent .speeds)
 unfolding speedsOf stopAt
-speedsOf-lent n coords speeds blends h =
-    map-tabulate (λ (s : Stop). s .speed) n (stopAt coords speeds blends) ∙ tabulate-getD n speeds 0 h
+speedsOf-first n lent h = map-tabulate (λ (s : Stop). s .speed) n (stopAt lent) ∙ tabulate-getD n (lent .speeds) 0 h
 
-pub blendsOf-lent : (n : ℕ) (coords : List ℤ) (speeds blends : List ℕ) → n ≤ length blends → blendsOf (lentStops n coords speeds blends) ≡ take n blends
+pub blendsOf-first : (n : ℕ) (lent : LentStops) → n ≤ length (lent .blends) → blendsOf (firstStops n lent) ≡ take n (lent .blends)
 unfolding blendsOf stopAt
-blendsOf-lent n coords speeds blends h =
-    map-tabulate (λ (s : Stop). s .blend) n (stopAt coords speeds blends) ∙ tabulate-getD n blends 0 h
+blendsOf-first n lent h = map-tabulate (λ (s : Stop). s .blend) n (stopAt lent) ∙ tabulate-getD n (lent .blends) 0 h
 
 -- ---- a list is in range exactly if each of its stops is
 
@@ -130,11 +150,11 @@ one-bad (suc n) f zero h b = rw b
 one-bad (suc n) f (suc i) h b = rw (one-bad n (λ j. f (suc j)) i (le-of-suc-le-suc h) b, and-false)
 
 -- the judgement of a list: 0 where each stop is in range, 6 where one is not
-pub judge-good : (n : ℕ) (f : ℕ → Stop) → ((i : ℕ) → i < n → inRange (f i) ≡ true) → 0 ≡ judgeAll (tabulate n f)
+pub judge-good : (n : ℕ) (f : ℕ → Stop) → ((i : ℕ) → i < n → inRange (f i) ≡ true) → 0 ≡ number (judgeAll (tabulate n f))
 unfolding judgeAll
 judge-good n f g = rw (all-good n f g)
 
-pub judge-bad : (n : ℕ) (f : ℕ → Stop) (i : ℕ) → i < n → inRange (f i) ≡ false → 6 ≡ judgeAll (tabulate n f)
+pub judge-bad : (n : ℕ) (f : ℕ → Stop) (i : ℕ) → i < n → inRange (f i) ≡ false → outOfRange ≡ number (judgeAll (tabulate n f))
 unfolding judgeAll
 judge-bad n f i h b = rw (one-bad n f i h b)
 
@@ -145,31 +165,39 @@ each-good (s ∷ ss) zero d g h = and-left (inRange s) (allInRange ss) g
 each-good (s ∷ ss) (suc i) d g h = each-good ss i d (and-right (inRange s) (allInRange ss) g) (le-of-suc-le-suc h)
 
 -- each of n lent stops is in range where all are
-pub lent-good : (n : ℕ) (coords : List ℤ) (speeds blends : List ℕ) (i : ℕ) → allInRange (lentStops n coords speeds blends) ≡ true → i < n → inRange (stopAt coords speeds blends i) ≡ true
-lent-good n coords speeds blends i g h =
-    ap inRange (sym (getD-lent n coords speeds blends i zeroStop h))
-    ∙ each-good (lentStops n coords speeds blends) i zeroStop g (rw (length-lent n coords speeds blends) h)
+pub first-good : (n : ℕ) (lent : LentStops) (i : ℕ) → allInRange (firstStops n lent) ≡ true → i < n → inRange (stopAt lent i) ≡ true
+first-good n lent i g h =
+    ap inRange (sym (getD-first n lent i zeroStop h))
+    ∙ each-good (firstStops n lent) i zeroStop g (rw (length-first n lent) h)
 
 -- ---- what judging lent stops tells
 
--- the buffers have places for n stops, and those are in range
-pub record GoodLent (n : ℕ) (coords : List ℤ) (speeds blends : List ℕ) : Type 0 where
-  pub coordinatePlaces : 3 * n ≤ length coords
-  pub speedPlaces : n ≤ length speeds
-  pub blendPlaces : n ≤ length blends
-  pub stops : allInRange (lentStops n coords speeds blends) ≡ true
+-- the places that the buffers have
+pub places : (n : ℕ) (lent : LentStops) → stopsFit n lent ≡ true → (3 * n ≤ length (lent .coords)) × (n ≤ length (lent .speeds)) × (n ≤ length (lent .blends))
+unfolding stopsFit
+places n lent e =
+    let points = leb (3 * n) (length (lent .coords)) in
+    let speeds = leb n (length (lent .speeds)) in
+    let blends = leb n (length (lent .blends)) in
+    let both : (points && speeds) ≡ true = and-left (points && speeds) blends e in
+    (leb-true _ _ (and-left points speeds both), leb-true _ _ (and-right points speeds both), leb-true _ _ (and-right (points && speeds) blends e))
 
-pub judged-lent : (n : ℕ) (coords : List ℤ) (speeds blends : List ℕ) → judgeLent n coords speeds blends ≡ 0 → GoodLent n coords speeds blends
-unfolding judgeLent judgeAll stopsFit
-judged-lent n coords speeds blends e =
-    let pointsFit = leb (3 * n) (length coords) in
-    let speedsFit = leb n (length speeds) in
-    let blendsFit = leb n (length blends) in
-    let fits : (pointsFit && speedsFit && blendsFit) ≡ true = test-passed (pointsFit && speedsFit && blendsFit) _ 7 e in
-    let both : (pointsFit && speedsFit) ≡ true = and-left (pointsFit && speedsFit) blendsFit fits in
+pub judged-lent : (n : ℕ) (lent : LentStops) → number (judgeLent n lent) ≡ 0 → Judged n lent
+unfolding judgeLent judgeAll
+judged-lent n lent e =
+    let stops = firstStops n lent in
+    let fits = passed (stopsFit n lent) wrongSize (judgeAll stops) (omega arith) e in
+    let room = places n lent (fits .holds) in
     record {
-      coordinatePlaces = leb-true _ _ (and-left pointsFit speedsFit both);
-      speedPlaces = leb-true _ _ (and-right pointsFit speedsFit both);
-      blendPlaces = leb-true _ _ (and-right (pointsFit && speedsFit) blendsFit fits);
-      stops = test-passed (allInRange (lentStops n coords speeds blends)) 0 5 (rest-passed (pointsFit && speedsFit && blendsFit) _ 7 e);
+      coordinatePlaces = room .0;
+      speedPlaces = room .1;
+      blendPlaces = room .2;
+      inRange = passed (allInRange stops) outOfRange (gives stops) (omega arith) (fits .goes-on) .holds;
     }
+
+-- what it gives
+pub judged-gives : (n : ℕ) (lent : LentStops) → number (judgeLent n lent) ≡ 0 → judgeLent n lent ≡ gives (firstStops n lent)
+unfolding judgeLent judgeAll
+judged-gives n lent e =
+    let fits = passed (stopsFit n lent) wrongSize (judgeAll (firstStops n lent)) (omega arith) e in
+    fits .same ∙ passed (allInRange (firstStops n lent)) outOfRange (gives (firstStops n lent)) (omega arith) (fits .goes-on) .same

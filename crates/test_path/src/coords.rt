@@ -1,8 +1,18 @@
-// Lists of coordinates: parts of them, whether they are as they were lent, sums of them, and how they are written.
+// Lists of coordinates: read from a case, parts of them, whether they are as they were lent, sums of them, and how they are written.
 
-use show::count;
-use show::sum;
-use show::write;
+use test_support::count;
+use test_support::sum;
+use test_support::text;
+use test_support::write;
+
+// The coordinate in word i of a case, below 0 after a sign.
+pub fn given(line: &[u8], i: usize) -> i32 {
+    let number = (text::number(line, i) % 4294967296) as u32;
+    if text::letter(line, i) == b'-' {
+        return records::to_signed(std::num::wrapping_sub_u32(0, number));
+    }
+    records::to_signed(number)
+}
 
 // The first `count` coordinates, or all where there are fewer.
 pub fn part(all: &[i32], count: usize) -> &[i32] {
@@ -12,6 +22,7 @@ pub fn part(all: &[i32], count: usize) -> &[i32] {
     &all[0..count]
 }
 
+// The same of coordinates that may be written.
 pub fn part_mut(all: &mut [i32], count: usize) -> &mut [i32] {
     if all.len() < count {
         return all;
@@ -19,29 +30,30 @@ pub fn part_mut(all: &mut [i32], count: usize) -> &mut [i32] {
     &mut all[0..count]
 }
 
-// A number from 0 on, and one below 0 as what it lies below -1.
-fn below(number: i32) -> u32 {
-    if number < 0 {
-        return (-1 - number) as u32;
-    }
-    number as u32
-}
-
-// Twice a number from 0 on, and for one below 0 twice what it lies below -1, and 1.
-fn signed(number: i32) -> u64 {
-    if number < 0 {
-        return show::wide32(below(number)) * 2 + 1;
-    }
-    show::wide32(below(number)) * 2
+// A coordinate in two's complement.
+fn bits(number: i32) -> u64 {
+    let mut bytes = [0u8; 4];
+    records::put_signed(&mut bytes, 0, number);
+    records::field64(&bytes, 0)
 }
 
 // A space, and a coordinate.
 fn number(number: i32) {
-    if number < 0 {
-        write::value(b" -", show::wide32(below(number)) + 1);
+    let bits = bits(number);
+    if bits < 2147483648 {
+        write::number(bits);
     } else {
-        write::number(show::wide32(below(number)));
+        write::value(b" -", std::num::wrapping_sub_u64(4294967296, bits));
     }
+}
+
+// Twice a number from 0 on, and for one below 0 twice what it lies below -1, and 1.
+fn folded(number: i32) -> u64 {
+    let bits = bits(number) % 4294967296;
+    if bits < 2147483648 {
+        return bits * 2;
+    }
+    (4294967295 - bits) * 2 + 1
 }
 
 // The coordinates of a list, each after a space.
@@ -65,7 +77,7 @@ pub fn list(label: &[u8], coords: &[i32]) {
 fn total(coords: &[i32]) -> u64 {
     let mut total: u64 = 0;
     for i in 0..coords.len() {
-        total = sum::more(total, signed(coords[i]));
+        total = sum::more(total, folded(coords[i]));
     }
     total
 }

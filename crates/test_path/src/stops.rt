@@ -1,137 +1,76 @@
 // Stops made, and the times of moves.
 
 use crate::coords;
-use show::write;
-use stop::MoveTime;
+use crate::sample;
 use stop::Stop;
+use test_support::part;
+use test_support::text;
+use test_support::write;
+use times::MoveTime;
 
-// Makes a stop, and writes the answer.
-fn made(name: &[u8], x: i32, y: i32, z: i32, speed: u16, blend: u16) {
-    let made = Stop::new([x, y, z], speed, blend);
+// `stop X Y Z SPEED BLEND`
+pub fn stop(line: &[u8]) {
+    let at = [
+        coords::given(line, 2),
+        coords::given(line, 3),
+        coords::given(line, 4),
+    ];
+    let made = Stop::new(at, text::short(line, 5), text::short(line, 6));
     let s = made.stop;
     let at = s.at;
-    io::write_all(1, name);
-    write::value(b": ", show::wide(made.refused));
+    write::value(b": ", test_support::wide(made.refused));
     coords::list(b", stop", &at);
-    write::number(show::wide(s.speed));
-    write::number(show::wide(s.blend));
+    write::number(test_support::wide(s.speed));
+    write::number(test_support::wide(s.blend));
     io::write_all(1, b"\n");
 }
 
-fn spot(x: i32, y: i32, z: i32, speed: u16, blend: u16) -> Stop {
+// The stop from which a move leads, the first five numbers.
+fn from(line: &[u8]) -> Stop {
     Stop {
-        at: [x, y, z],
-        speed,
-        blend,
+        at: [
+            coords::given(line, 2),
+            coords::given(line, 3),
+            coords::given(line, 4),
+        ],
+        speed: text::short(line, 5),
+        blend: text::short(line, 6),
     }
 }
 
-// Times a move, and writes the answer.
-fn moved(name: &[u8], from: Stop, to: Stop) {
-    io::write_all(1, name);
-    let time = stop::move_time(from, to);
+// The stop to which it leads, the last five.
+fn to(line: &[u8]) -> Stop {
+    Stop {
+        at: [
+            coords::given(line, 7),
+            coords::given(line, 8),
+            coords::given(line, 9),
+        ],
+        speed: text::short(line, 10),
+        blend: text::short(line, 11),
+    }
+}
+
+// `move X Y Z SPEED BLEND X Y Z SPEED BLEND`
+pub fn moved(line: &[u8]) {
+    let time = times::move_time(from(line), to(line));
     match time {
-        MoveTime::Takes(time) => write::value(b": 0, time ", show::wide32(time)),
-        MoveTime::Refused(number) => write::value(b": ", show::wide(number)),
+        MoveTime::Takes(time) => write::value(b": 0, time ", test_support::wide32(time)),
+        MoveTime::Refused(number) => write::value(b": ", test_support::wide(number)),
     }
     io::write_all(1, b"\n");
 }
 
-fn stops() {
-    made(b"stop, coordinates 20000", 20000, 20000, 20000, 1, 0);
-    made(
-        b"stop, coordinates -20000",
-        -20000,
-        -20000,
-        -20000,
-        2000,
-        500,
+// `between PATH LENGTH CHANGES VERSION FROM TO`
+pub fn between(line: &[u8]) {
+    let bytes = sample::path(line);
+    let path = part::bytes(&bytes, text::size(line, 3));
+    let time = times::time_in(
+        path,
+        text::short(line, 5),
+        text::size(line, 6),
+        text::size(line, 7),
     );
-    made(b"stop, x 20001", 20001, 0, 0, 1, 0);
-    made(b"stop, x -20001", -20001, 0, 0, 1, 0);
-    made(b"stop, y 20001", 0, 20001, 0, 1, 0);
-    made(b"stop, y -2147483648", 0, -2147483648, 0, 1, 0);
-    made(b"stop, z 2147483647", 0, 0, 2147483647, 1, 0);
-    made(b"stop, z -20001", 0, 0, -20001, 1, 0);
-    made(b"stop, speed 0", 1, 2, 3, 0, 4);
-    made(b"stop, speed 2001", 1, 2, 3, 2001, 4);
-    made(b"stop, blend 501", 1, 2, 3, 4, 501);
-}
-
-fn moves() {
-    moved(
-        b"move, D 1, speed 200",
-        spot(0, 0, 0, 1, 0),
-        spot(1, 0, 0, 200, 0),
-    );
-    moved(
-        b"move, D 2, speed 200",
-        spot(0, 0, 0, 1, 0),
-        spot(0, -2, 0, 200, 0),
-    );
-    moved(
-        b"move, D 3, speed 200",
-        spot(0, 0, 5, 1, 0),
-        spot(1, 2, 2, 200, 0),
-    );
-    moved(
-        b"move, D 40000, speed 1",
-        spot(-20000, 0, 0, 2000, 0),
-        spot(20000, 0, 0, 1, 0),
-    );
-    moved(
-        b"move, D 40000, speed 2000",
-        spot(0, 0, 20000, 1, 0),
-        spot(0, 0, -20000, 2000, 0),
-    );
-    moved(
-        b"move, D 10, y the largest",
-        spot(1, 1, 1, 7, 0),
-        spot(2, -9, 3, 300, 0),
-    );
-}
-
-fn other_moves() {
-    moved(
-        b"move, blends 500",
-        spot(0, 0, 0, 1, 500),
-        spot(1, 0, 0, 200, 500),
-    );
-    moved(
-        b"move, the same place",
-        spot(4, 5, 6, 1, 0),
-        spot(4, 5, 6, 2000, 0),
-    );
-    moved(
-        b"move, from x 20001",
-        spot(20001, 0, 0, 1, 0),
-        spot(0, 0, 0, 1, 0),
-    );
-    moved(
-        b"move, from blend 501",
-        spot(0, 0, 0, 1, 501),
-        spot(0, 0, 0, 1, 0),
-    );
-    moved(
-        b"move, to x -20001",
-        spot(0, 0, 0, 1, 0),
-        spot(-20001, 0, 0, 1, 0),
-    );
-    moved(
-        b"move, to speed 0",
-        spot(0, 0, 0, 1, 0),
-        spot(0, 0, 0, 0, 0),
-    );
-    moved(
-        b"move, to blend 501",
-        spot(0, 0, 0, 1, 0),
-        spot(0, 0, 0, 1, 501),
-    );
-}
-
-// The stops and moves.
-pub fn run() {
-    stops();
-    moves();
-    other_moves();
+    write::value(b": time ", test_support::wide32(time));
+    io::write_all(1, b"\n");
 }

@@ -1,13 +1,13 @@
 // One call of the planner, and its line.
 
 use planner::Planned;
-use show::count;
-use show::write;
+use test_support::count;
+use test_support::write;
 
 // k and the table's rule.
 pub fn title(k: u16, rule: u32) {
-    write::value(b"k ", show::wide(k));
-    write::value(b", rule ", show::wide32(rule));
+    write::value(b"k ", test_support::wide(k));
+    write::value(b", rule ", test_support::wide32(rule));
 }
 
 // The lent lengths.
@@ -19,10 +19,10 @@ fn lengths(table: &[u32], order: &[u16], totals: &[u64], pivots: &[u16]) {
 }
 
 // The number of a refusal, or 0 and the total.
-pub fn answer(planned: Planned) {
+pub fn planned_answer(planned: Planned) {
     match planned {
         Planned::Done(total) => write::value(b": 0, total ", total),
-        Planned::Refused(refusal) => write::value(b": ", show::wide(refusal)),
+        Planned::Refused(refusal) => write::value(b": ", test_support::wide(refusal)),
     }
 }
 
@@ -46,7 +46,7 @@ pub fn example(
 ) {
     title(k, rule);
     lengths(table, order, totals, pivots);
-    answer(planner::plan(k, table, order, totals, pivots));
+    planned_answer(planner::plan(k, table, order, totals, pivots));
     write::numbers(b", order", order);
     work(totals, pivots);
 }

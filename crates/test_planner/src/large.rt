@@ -1,10 +1,10 @@
 // Tables for k = 10: one whose only best order is that of a mixed set of forks, and one of ties.
 
-use crate::call::answer;
+use crate::call::planned_answer;
 use crate::call::title;
 use crate::call::work;
 use crate::table::fill;
-use show::part;
+use test_support::part;
 ghost use Prim.Native.Nat.{_<_};
 
 // 1 where fork v is exchanged, in the mixed set.
@@ -72,6 +72,7 @@ fn is_expected(order: &[u16], planted: bool) -> bool {
     true
 }
 
+// Whether the order is the expected one.
 fn verdict(ok: bool) {
     if ok {
         io::write_all(1, b", order ok");
@@ -82,11 +83,17 @@ fn verdict(ok: bool) {
 
 // Plans by a table for k = 10 of moves that take 5, but those of the planted order, which take `time`: where that is less, the planted order
 // alone is best, and where it is 5 all orders are.
-fn run(time: u32, table: &mut [u32], order: &mut [u16], totals: &mut [u64], pivots: &mut [u16]) {
+fn plan_planted(
+    time: u32,
+    table: &mut [u32],
+    order: &mut [u16],
+    totals: &mut [u64],
+    pivots: &mut [u16],
+) {
     fill(table, 1024, 8);
     plant(table, time);
     title(10, 8);
-    answer(planner::plan(10, table, order, totals, pivots));
+    planned_answer(planner::plan(10, table, order, totals, pivots));
     verdict(is_expected(order, time < 5));
     work(totals, pivots);
 }
@@ -97,5 +104,5 @@ pub fn at_ten(time: u32) {
     let mut order = [77u16; 1025];
     let mut totals = [77u64; 2049];
     let mut pivots = [77u16; 2050];
-    run(time, &mut table, &mut order, &mut totals, &mut pivots);
+    plan_planted(time, &mut table, &mut order, &mut totals, &mut pivots);
 }

@@ -2,7 +2,7 @@
 
 use crate::call::example;
 use crate::table::fill;
-use show::part;
+use test_support::part;
 ghost use Prim.Native.Nat.{_<_};
 
 // Plans for k by a table of n rows by a rule, with a table, an order, totals and pivots of these lengths, at most 256, 18, 33 and 32.

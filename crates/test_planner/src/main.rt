@@ -71,6 +71,7 @@ fn refused() {
     lent(65535, 0, 4, 16, 4, 8, 8);
 }
 
+// All calls.
 fn main() {
     starred();
     ruled();

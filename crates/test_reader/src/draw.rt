@@ -1,20 +1,29 @@
 // What is written: each draw, and the whole reading. A stop is written as the 16 bytes that its record of version 5 holds.
+use path::HEAD_SIZE;
 use path::PathRead;
 use reader::Drawn;
-use show::write;
 use stop::Stop;
+use test_support::write;
+
+// Where the content of the one stop of a path begins and ends: after the head, its length and its kind, before the end record.
+const FIRST: usize = HEAD_SIZE + 4;
+
+const AFTER: usize = FIRST + 16;
 
 // A number.
 pub fn number(n: usize) {
     io::print_decimal(1, n as u64);
 }
 
-// A stop.
+// A stop, out of the path that it makes alone.
 fn stop(s: Stop) {
-    let mut out = [0u8; 20];
-    path::put_stop(&mut out, 0, 5, s);
+    let coords = s.at;
+    let speeds = [s.speed];
+    let blends = [s.blend];
+    let mut out = [0u8; AFTER + 4];
+    path::write_path(5, 0, &coords, &speeds, &blends, &mut out);
     io::write_all(1, b" ");
-    write::hex(b"", &out[4..]);
+    write::hex(b"", &out[FIRST..AFTER]);
 }
 
 // A refusal.

@@ -2,7 +2,7 @@
 // compared with `stdout`.
 mod draw;
 
-use show::part;
+use test_support::part;
 
 // A path of version 5 of 4 stops, which differ in every field.
 fn good() -> [u8; 92] {

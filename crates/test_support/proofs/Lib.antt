@@ -1,1 +1,3 @@
-mod Rest
+-- Laws of loops over a list, and of text.
+mod Loop
+mod Fields

@@ -1,9 +1,11 @@
-// What the example programs share: parts of lent buffers and numbers put into one, counts and sums over lists, and lists written out.
+// What the test programs share. A program reads its cases from standard input, one to a line, and writes a line for each: `text` takes the lines
+// apart, `part` makes what is lent, `count` and `sum` say what it holds afterwards, `write` writes it.
 //
 // No public function has a `requires`. No contract can say what is written, so those of `write` promise only that they return.
 pub mod count;
 pub mod part;
 pub mod sum;
+pub mod text;
 pub mod write;
 
 ghost use mathlib.Core.Path.{_≡_};

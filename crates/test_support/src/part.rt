@@ -1,72 +1,77 @@
 // First parts of buffers, and numbers put into one.
 ghost use mathlib.Core.Path.{_≡_};
-ghost use Prim.Native.Nat.{_≤_, min};
-ghost use lib.ListN.{length, take, set};
+ghost use lib.ListN.{take, set};
 ghost use lib.Seq.{sets};
-ghost use Rattle.show.specs.Change.{changedOnce, changed};
-
-// The smaller of two numbers.
-fn least(a: usize, b: usize) -> usize
-    ensures { λ r. ⌜ r ≡ min a b ⌝ }
-    ensures { λ r. ⌜ r ≤ b ⌝ }
-{
-    if a < b { a } else { b }
-}
+ghost use Rattle.test_support.specs.Change.{changedOnce, changed};
 
 // The first `count` bytes, or all where there are fewer.
 pub fn bytes(all: &[u8], count: usize) -> &[u8]
-    ensures { λ r. ⌜ now r ≡ take (min count (length (now (all .entry)))) (now (all .entry)) ⌝ }
+    ensures { λ r. ⌜ now r ≡ take count (now (all .entry)) ⌝ }
 {
-    let end = least(count, all.len());
-    &all[..end]
+    if all.len() < count {
+        return all;
+    }
+    &all[..count]
 }
 
 // The same of bytes that may be written.
 pub fn bytes_mut(all: &mut [u8], count: usize) -> &mut [u8]
-    ensures { λ r. ⌜ now r ≡ take (min count (length (now (all .entry)))) (now (all .entry)) ⌝ }
+    ensures { λ r. ⌜ now r ≡ take count (now (all .entry)) ⌝ }
 {
-    let end = least(count, all.len());
-    &mut all[..end]
+    if all.len() < count {
+        return all;
+    }
+    &mut all[..count]
 }
 
 // The first `count` numbers of 16 bits, or all where there are fewer.
 pub fn numbers(all: &[u16], count: usize) -> &[u16]
-    ensures { λ r. ⌜ now r ≡ take (min count (length (now (all .entry)))) (now (all .entry)) ⌝ }
+    ensures { λ r. ⌜ now r ≡ take count (now (all .entry)) ⌝ }
 {
-    let end = least(count, all.len());
-    &all[..end]
+    if all.len() < count {
+        return all;
+    }
+    &all[..count]
 }
 
 // The same of numbers that may be written.
 pub fn numbers_mut(all: &mut [u16], count: usize) -> &mut [u16]
-    ensures { λ r. ⌜ now r ≡ take (min count (length (now (all .entry)))) (now (all .entry)) ⌝ }
+    ensures { λ r. ⌜ now r ≡ take count (now (all .entry)) ⌝ }
 {
-    let end = least(count, all.len());
-    &mut all[..end]
+    if all.len() < count {
+        return all;
+    }
+    &mut all[..count]
 }
 
 // The first `count` times, or all where there are fewer.
 pub fn times(all: &[u32], count: usize) -> &[u32]
-    ensures { λ r. ⌜ now r ≡ take (min count (length (now (all .entry)))) (now (all .entry)) ⌝ }
+    ensures { λ r. ⌜ now r ≡ take count (now (all .entry)) ⌝ }
 {
-    let end = least(count, all.len());
-    &all[..end]
+    if all.len() < count {
+        return all;
+    }
+    &all[..count]
 }
 
 // The same of times that may be written.
 pub fn times_mut(all: &mut [u32], count: usize) -> &mut [u32]
-    ensures { λ r. ⌜ now r ≡ take (min count (length (now (all .entry)))) (now (all .entry)) ⌝ }
+    ensures { λ r. ⌜ now r ≡ take count (now (all .entry)) ⌝ }
 {
-    let end = least(count, all.len());
-    &mut all[..end]
+    if all.len() < count {
+        return all;
+    }
+    &mut all[..count]
 }
 
 // The first `count` totals that may be written, or all where there are fewer.
 pub fn totals_mut(all: &mut [u64], count: usize) -> &mut [u64]
-    ensures { λ r. ⌜ now r ≡ take (min count (length (now (all .entry)))) (now (all .entry)) ⌝ }
+    ensures { λ r. ⌜ now r ≡ take count (now (all .entry)) ⌝ }
 {
-    let end = least(count, all.len());
-    &mut all[..end]
+    if all.len() < count {
+        return all;
+    }
+    &mut all[..count]
 }
 
 // Puts a byte where there is a place for it.

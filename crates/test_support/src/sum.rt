@@ -3,7 +3,7 @@ use crate::wide;
 use crate::wide8;
 use crate::wide32;
 ghost use mathlib.Core.Path.{_≡_};
-ghost use Rattle.show.specs.Sum.{oneMore, sumFrom};
+ghost use Rattle.test_support.specs.Sum.{oneMore, sumOf};
 
 // The sum with one number more.
 pub fn more(sum: u64, number: u64) -> u64
@@ -13,34 +13,34 @@ pub fn more(sum: u64, number: u64) -> u64
 }
 
 // The sum of a list of bytes.
-pub fn bytes(bytes: &[u8]) -> u64
-    ensures { λ r. ⌜ r ≡ sumFrom 0 (now (bytes .entry)) ⌝ }
+pub fn bytes(list: &[u8]) -> u64
+    ensures { λ r. ⌜ r ≡ sumOf (now (list .entry)) ⌝ }
 {
     let mut sum: u64 = 0;
-    for i in 0..bytes.len() {
-        sum = more(sum, wide8(bytes[i]));
+    for i in 0..list.len() {
+        sum = more(sum, wide8(list[i]));
     }
     sum
 }
 
 // The sum of a list of numbers of 16 bits.
-pub fn numbers(numbers: &[u16]) -> u64
-    ensures { λ r. ⌜ r ≡ sumFrom 0 (now (numbers .entry)) ⌝ }
+pub fn numbers(list: &[u16]) -> u64
+    ensures { λ r. ⌜ r ≡ sumOf (now (list .entry)) ⌝ }
 {
     let mut sum: u64 = 0;
-    for i in 0..numbers.len() {
-        sum = more(sum, wide(numbers[i]));
+    for i in 0..list.len() {
+        sum = more(sum, wide(list[i]));
     }
     sum
 }
 
 // The sum of a list of times.
-pub fn times(times: &[u32]) -> u64
-    ensures { λ r. ⌜ r ≡ sumFrom 0 (now (times .entry)) ⌝ }
+pub fn times(list: &[u32]) -> u64
+    ensures { λ r. ⌜ r ≡ sumOf (now (list .entry)) ⌝ }
 {
     let mut sum: u64 = 0;
-    for i in 0..times.len() {
-        sum = more(sum, wide32(times[i]));
+    for i in 0..list.len() {
+        sum = more(sum, wide32(list[i]));
     }
     sum
 }

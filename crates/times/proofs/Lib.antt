@@ -1,5 +1,7 @@
 -- Laws of the crate's definitions.
+pub mod Time
 pub mod Rows
 pub mod Written
 pub mod Size
+pub mod InPath
 pub mod Table

@@ -1,28 +1,32 @@
--- Laws of the table of travel times: its length and each entry, a bound on the entries, and that what is written from judged stops
--- is the table.
-use mathlib.Core.Path.{_≡_, refl, sym, ap, _∙_}
+-- Laws of the table of travel times: its length, each entry and a bound on them, and what the call promises.
+use mathlib.Core.Path.{_≡_, refl, sym, ap, subst, _∙_}
 use mathlib.Core.Bool.{true}
 use mathlib.Core.List.{List}
-use Prim.Native.Nat.{ℕ, zero, suc, _+_, _*_, _≤_, _<_}
+use Prim.Native.Nat.{ℕ, zero, suc, _+_, _*_, _/_, _%_, _^_, _≤_, _<_}
+use native.Mathlib.Decide.{decLt}
+use native.Mathlib.Nat.{div-add-mod', div-lt-iff-lt-mul, mod-lt}
+use native.Mathlib.Omega.{arith}
 use lib.Dec.{leb, eqb}
-use lib.ListN.{length, getD}
-use lib.IntN.{ℤ}
-use borrow.Author.Tests.{eqb-true}
-use Rattle.base.specs.Size.{maxK, stopCount}
-use Rattle.stop.specs.declared.Stop.{Stop}
-use Rattle.stop.specs.Stop.{zeroStop}
+use lib.ListN.{length, getD, List·getD-eq-default}
+use borrow.Author.Tests.{eqb-true, leb-true, eq-eqb, le-leb}
+use Rattle.base.specs.Refusal.{wrongK, wrongSize}
+use Rattle.base.specs.Outcome.{Outcome, gives, giving, done, number}
+use Rattle.base.specs.Size.{maxK}
 use Rattle.base.specs.Lists.{tabulate}
-use Rattle.stop.specs.Lent.{stopAt, lentStops, allInRange}
-use Rattle.stop.specs.Time.{timeBetween, longestTime}
-use Rattle.stop.proofs.Verdict.{test-passed, rest-passed}
-use Rattle.base.proofs.Lists.{length-tabulate, getD-tabulate, tabulate-cong}
-use Rattle.stop.proofs.Lent.{length-lent, getD-lent, lent-good, each-good, judged-lent}
-use Rattle.stop.proofs.Time.{timeOrZero-good, timeBetween-bound}
+use Rattle.base.proofs.Outcome.{passed, refused, number-giving, number-first, over-whole}
+use Rattle.base.proofs.Lists.{length-tabulate, getD-tabulate}
+use Rattle.stop.specs.declared.Stop.{Stop}
+use Rattle.stop.specs.Stop.{inRange, zeroStop}
+use Rattle.stop.specs.Lent.{LentStops, firstStops, allInRange, judgeLent, Judged}
+use Rattle.stop.proofs.Lent.{each-good, judged-lent, judged-gives}
+use Rattle.path.specs.Path.{bodyAfterHead, stopsIn}
+use Rattle.path.proofs.JudgeLaws.{JudgedBody, body-good}
+use Rattle.times.specs.declared.TableMade.{TableMade}
 use Rattle.times.specs.declared.TableMade.the-variants.{Made, Refused}
-use Rattle.times.specs.Rows.{rows}
-use Rattle.times.specs.Lent.{lentTime}
-use Rattle.times.specs.Table.{entryOf, tableOf, judgeTable, tableNumber, answerOf, tableAfter, MadeTable}
-use Rattle.times.proofs.Rows.{length-rows, getD-rows, rows-cong}
+use Rattle.times.specs.Time.{timeBetween, longestTime}
+use Rattle.times.specs.Table.{entryOf, tableOf, tableRoom, makeTable, tableFrom, said, TableIsMade}
+use Rattle.times.proofs.Time.{timeBetween-bound}
+use Rattle.times.proofs.Rows.{length-rows, getD-rows}
 
 -- ---- the table's entries
 
@@ -45,60 +49,130 @@ table-bound stops from to g h k =
     rw (getD-table stops from to h k)
     (timeBetween-bound from to (getD stops from zeroStop) (getD stops to zeroStop) (each-good stops from zeroStop g h) (each-good stops to zeroStop g k))
 
--- ---- the table of lent stops
+-- and so is what is read at any place, also beyond the end
+pub table-small : (stops : List Stop) → allInRange stops ≡ true → (i : ℕ) → getD (tableOf stops) i 0 ≤ longestTime
+table-small stops g i = go (decLt i (length stops * length stops))
+  where
+    inside : (m : ℕ) → length stops ≡ m → i < length stops * length stops → getD (tableOf stops) i 0 ≤ longestTime
+    inside zero e x = let none : i < 0 * 0 = subst (λ (y : ℕ). i < y * y) e x in absurd (omega arith)
+    inside (suc m) e x =
+        let positive : 0 < length stops = omega arith in
+        subst (λ (j : ℕ). getD (tableOf stops) j 0 ≤ longestTime) (div-add-mod' i (length stops))
+        (table-bound stops (i / length stops) (i % length stops) g (div-lt-iff-lt-mul positive .1 x) (mod-lt i positive))
 
--- the time between judged stops
-lent-entry : (n : ℕ) (coords : List ℤ) (speeds blends : List ℕ) → allInRange (lentStops n coords speeds blends) ≡ true → (from to : ℕ) → from < n → to < n → lentTime coords speeds blends from to ≡ entryOf (lentStops n coords speeds blends) from to
-unfolding lentTime entryOf
-lent-entry n coords speeds blends g from to h k =
-    timeOrZero-good from to (stopAt coords speeds blends from) (stopAt coords speeds blends to) (lent-good n coords speeds blends from g h) (lent-good n coords speeds blends to g k)
-    ∙ sym (rw (getD-lent n coords speeds blends from zeroStop h, getD-lent n coords speeds blends to zeroStop k))
+    go : Dec (i < length stops * length stops) → getD (tableOf stops) i 0 ≤ longestTime
+    go (yes h) = inside (length stops) refl h
+    go (no h) = let past : length (tableOf stops) ≤ i = rw (length-table stops) (omega arith) in rw (List·getD-eq-default (tableOf stops) 0 {n = i} past) (omega arith)
 
--- what is written from judged stops is their table
-pub lent-table : (n : ℕ) (coords : List ℤ) (speeds blends : List ℕ) → allInRange (lentStops n coords speeds blends) ≡ true → rows n (λ from. tabulate n (lentTime coords speeds blends from)) ≡ tableOf (lentStops n coords speeds blends)
-unfolding tableOf
-lent-table n coords speeds blends g =
-    rw (length-lent n coords speeds blends)
-    (rows-cong n
-    (λ from. tabulate n (lentTime coords speeds blends from))
-    (λ from. tabulate n (entryOf (lentStops n coords speeds blends) from))
-    (λ from h. tabulate-cong n (lentTime coords speeds blends from) (entryOf (lentStops n coords speeds blends) from) (λ to k. lent-entry n coords speeds blends g from to h k)))
+-- the entry for two stops of a source is the time between them
+pub source-entry : (n : ℕ) (f : ℕ → Stop) (from to : ℕ) (a b : Stop) (t : ℕ) → from < n → to < n → a ≡ f from → b ≡ f to → t ≡ timeBetween from to a b → t ≡ entryOf (tabulate n f) from to
+unfolding entryOf
+source-entry n f from to a b t h k ea eb e = rw (getD-tabulate n f from zeroStop h, getD-tabulate n f to zeroStop k, ← ea, ← eb) e
 
--- ---- answers and their numbers
+-- a stop of a source whose stops are all in range
+pub source-good : (n : ℕ) (f : ℕ → Stop) (i : ℕ) (b : Stop) → allInRange (tabulate n f) ≡ true → i < n → b ≡ f i → inRange b ≡ true
+source-good n f i b g h e =
+    rw (e, ← getD-tabulate n f i zeroStop h) (each-good (tabulate n f) i zeroStop g (rw (length-tabulate n f) h))
 
-pub number-answer : (n : ℕ) → tableNumber (answerOf n) ≡ n
-unfolding tableNumber answerOf
-number-answer zero = refl
-number-answer (suc n) = refl
+-- ---- the calls
 
--- a refusal is the answer of its number
-refused-answer : (r : ℕ) → (r ≡ 0 → ⊥) → Refused r ≡ answerOf r
-unfolding answerOf
-refused-answer zero f = absurd (f refl)
-refused-answer (suc r) f = refl
+-- a k and a size that are judged 0
+pub record Room (k size : ℕ) : Type 0 where
+  pub small : k ≤ maxK
+  pub square : size ≡ 2 ^ k * 2 ^ k
+  pub passes : tableRoom k size ≡ gives tt
 
--- a call that is judged 0 has a table of n² places and stops in range
-pub judged-size : (k : ℕ) (coords : List ℤ) (speeds blends : List ℕ) (size r : ℕ) → r ≡ judgeTable k coords speeds blends size → r ≡ 0 → size ≡ stopCount k * stopCount k
-unfolding judgeTable
-judged-size k coords speeds blends size r e z =
-    eqb-true size (stopCount k * stopCount k)
-    (test-passed (eqb size (stopCount k * stopCount k)) _ 7 (rest-passed (leb k maxK) _ 4 (sym e ∙ z)))
+pub room : (k size : ℕ) → number (tableRoom k size) ≡ 0 → Room k size
+unfolding tableRoom
+room k size e =
+    let small = passed (leb k maxK) wrongK _ (omega arith) e in
+    let square = passed (eqb size (2 ^ k * 2 ^ k)) wrongSize (gives tt) (omega arith) (small .goes-on) in
+    record { small = leb-true _ _ (small .holds); square = eqb-true _ _ (square .holds); passes = small .same ∙ square .same }
 
-pub judged-stops : (k : ℕ) (coords : List ℤ) (speeds blends : List ℕ) (size : ℕ) → judgeTable k coords speeds blends size ≡ 0 → allInRange (lentStops (stopCount k) coords speeds blends) ≡ true
-unfolding judgeTable
-judged-stops k coords speeds blends size e =
-    judged-lent (stopCount k) coords speeds blends
-    (rest-passed (eqb size (stopCount k * stopCount k)) _ 7 (rest-passed (leb k maxK) _ 4 e))
-    .stops
+-- a k up to 10 and n² places pass
+pub room-passes : (k size : ℕ) → k ≤ maxK → size ≡ 2 ^ k * 2 ^ k → tableRoom k size ≡ gives tt
+unfolding tableRoom
+room-passes k size h e = rw (le-leb k maxK h, eq-eqb _ _ e)
 
--- what the call promises, after a refusal and after success
-pub table-refused : (k : ℕ) (coords : List ℤ) (speeds blends before : List ℕ) (r : ℕ) → r ≡ judgeTable k coords speeds blends (length before) → (r ≡ 0 → ⊥) → MadeTable k coords speeds blends before before (Refused r)
-unfolding answerOf tableNumber tableAfter
-table-refused k coords speeds blends before r e f =
-    record { answer = refused-answer r f ∙ ap answerOf e; number = e; table = refl }
+-- what comes after it is then the path's stops
+pub by-stops : (bytes : List ℕ) (version k size : ℕ) → k ≤ maxK → size ≡ 2 ^ k * 2 ^ k → tableFrom bytes version k size ≡ giving tableOf (bodyAfterHead bytes version k)
+unfolding tableFrom
+by-stops bytes version k size h e = rw (room-passes k size h e)
 
-pub table-made : (k : ℕ) (coords : List ℤ) (speeds blends before after : List ℕ) (r : ℕ) → r ≡ judgeTable k coords speeds blends (length before) → r ≡ 0 → after ≡ rows (stopCount k) (λ from. tabulate (stopCount k) (lentTime coords speeds blends from)) → MadeTable k coords speeds blends before after Made
-unfolding answerOf tableNumber tableAfter
-table-made k coords speeds blends before after r j z w =
-    let e : judgeTable k coords speeds blends (length before) ≡ 0 = sym j ∙ z in
-    record { answer = sym (ap answerOf e); number = sym e; table = w ∙ lent-table (stopCount k) coords speeds blends (judged-stops k coords speeds blends (length before) e) }
+-- what a call that is judged 0 has, and gives
+pub record Accepted (k : ℕ) (lent : LentStops) (size : ℕ) : Type 0 where
+  pub small : k ≤ maxK
+  pub square : size ≡ 2 ^ k * 2 ^ k
+  pub stops : Judged (2 ^ k) lent
+  pub gives-table : makeTable k lent size ≡ gives (tableOf (firstStops (2 ^ k) lent))
+
+pub accepted : (k : ℕ) (lent : LentStops) (size : ℕ) → number (makeTable k lent size) ≡ 0 → Accepted k lent size
+unfolding makeTable
+accepted k lent size e =
+    let r = room k size (number-first (tableRoom k size) (λ fits. giving tableOf (judgeLent (2 ^ k) lent)) e) in
+    let stops : number (judgeLent (2 ^ k) lent) ≡ 0 = sym (number-giving tableOf (judgeLent (2 ^ k) lent)) ∙ rw (r .passes) at e in
+    record {
+      small = r .small;
+      square = r .square;
+      stops = judged-lent (2 ^ k) lent stops;
+      gives-table = rw (r .passes, judged-gives (2 ^ k) lent stops);
+    }
+
+-- the same of path bytes
+pub record AcceptedPath (bytes : List ℕ) (version k size : ℕ) : Type 0 where
+  pub square : size ≡ 2 ^ k * 2 ^ k
+  pub body : JudgedBody bytes version k
+  pub gives-table : tableFrom bytes version k size ≡ gives (tableOf (stopsIn version (2 ^ k) bytes))
+
+pub accepted-path : (bytes : List ℕ) (version k size : ℕ) → number (tableFrom bytes version k size) ≡ 0 → AcceptedPath bytes version k size
+unfolding tableFrom
+accepted-path bytes version k size e =
+    let r = room k size (number-first (tableRoom k size) (λ fits. giving tableOf (bodyAfterHead bytes version k)) e) in
+    let body = body-good bytes version k (sym (number-giving tableOf (bodyAfterHead bytes version k)) ∙ rw (r .passes) at e) in
+    record { square = r .square; body = body; gives-table = rw (r .passes, body .stops) }
+
+-- the table of a source of 2^k stops is as long as the buffer
+pub square-table : (k size : ℕ) (f : ℕ → Stop) → size ≡ 2 ^ k * 2 ^ k → length (tableOf (tabulate (2 ^ k) f)) ≡ size
+square-table k size f e = length-table (tabulate (2 ^ k) f) ∙ rw (length-tabulate (2 ^ k) f) (sym e)
+
+-- the number of the table is that of its room where that is not 0, and otherwise that of the stops
+pub make-room : (k : ℕ) (lent : LentStops) (size r : ℕ) → r ≡ number (tableRoom k size) → (r ≡ 0 → ⊥) → r ≡ number (makeTable k lent size)
+unfolding makeTable
+make-room k lent size r e f = rw (refused (tableRoom k size) r e f)
+
+pub make-stops : (k : ℕ) (lent : LentStops) (size n r : ℕ) → Room k size → n ≡ 2 ^ k → r ≡ number (judgeLent n lent) → r ≡ number (makeTable k lent size)
+unfolding makeTable
+make-stops k lent size n r fits count e = rw (fits .passes) (rw count at e ∙ sym (number-giving tableOf (judgeLent (2 ^ k) lent)))
+
+pub path-room : (bytes : List ℕ) (version k size r : ℕ) → r ≡ number (tableRoom k size) → (r ≡ 0 → ⊥) → r ≡ number (tableFrom bytes version k size)
+unfolding tableFrom
+path-room bytes version k size r e f = rw (refused (tableRoom k size) r e f)
+
+pub path-stops : (bytes : List ℕ) (version k size r : ℕ) → Room k size → r ≡ number (bodyAfterHead bytes version k) → r ≡ number (tableFrom bytes version k size)
+unfolding tableFrom
+path-stops bytes version k size r fits e = rw (fits .passes) (e ∙ sym (number-giving tableOf (bodyAfterHead bytes version k)))
+
+-- ---- the promise
+
+-- after a refusal, and after success
+pub table-refused : (o : Outcome (List ℕ)) (before : List ℕ) (r : ℕ) → r ≡ number o → (r ≡ 0 → ⊥) → TableIsMade o before before (Refused r)
+unfolding said
+table-refused o before r e f = let n = refused o r e f in record { said = rw n; left = rw n }
+
+pub table-made : (o : Outcome (List ℕ)) (table before afterwards : List ℕ) → o ≡ gives table → length table ≡ length before → afterwards ≡ table → TableIsMade o before afterwards Made
+unfolding said
+table-made o table before afterwards e l w = record { said = rw e; left = rw e (w ∙ sym (over-whole table before l)) }
+
+-- an answer `Made` tells that nothing was refused
+pub when-made : (o : Outcome (List ℕ)) (before afterwards : List ℕ) → TableIsMade o before afterwards Made → number o ≡ 0
+unfolding said
+when-made o before afterwards p = sym (number-giving (λ a. tt) o) ∙ sym (ap number (p .said))
+
+-- an outcome that is a table is answered by `Made`, and leaves it
+pub made-when : (o : Outcome (List ℕ)) (table before afterwards : List ℕ) (r : TableMade) → o ≡ gives table → length table ≡ length before → TableIsMade o before afterwards r → (r ≡ Made) × (afterwards ≡ table)
+unfolding said
+made-when o table before afterwards r e l p = (only-made r (p .said ∙ ap done e), p .left ∙ rw e (over-whole table before l))
+  where
+    only-made : (r : TableMade) → said r ≡ gives tt → r ≡ Made
+    only-made Made e = refl
+    only-made (Refused n) e = let z : _≡_ {A = ℕ} 0 1 = cc in absurd (omega arith)

@@ -1,4 +1,5 @@
--- The table of travel times.
+-- The travel time between two stops, the table of all of them, and both of path bytes.
+pub mod Time
 pub mod Rows
 pub mod Table
-pub mod Lent
+pub mod InPath

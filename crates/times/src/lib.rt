@@ -1,13 +1,53 @@
-// The table of the travel times between all the stops of a tree, from lent stops.
+// Travel times: the time of a move between two stops, and the table of the times between all the stops of a tree, from lent stops or from path
+// bytes.
 //
 // No public function has a `requires`: bad input is refused by its number before the table is touched.
 
 mod fill;
+mod path_rows;
+mod travel;
 
+use base::MAX_K;
 use base::WRONG_K;
 use base::WRONG_SIZE;
+use path::judge_body;
+use path::stop_from;
+use stop::Stop;
 ghost use mathlib.Core.Path.{_≡_};
-ghost use Rattle.times.specs.Table.{judgeTable, MadeTable};
+ghost use Rattle.base.specs.Outcome.{number};
+ghost use Rattle.stop.specs.Lent.{lentStops};
+ghost use Rattle.times.specs.Time.{moveTime, said};
+ghost use Rattle.base.specs.Buffer.{atEntry};
+ghost use Rattle.times.specs.InPath.{timeOf, timeIn};
+ghost use Rattle.times.specs.Table.{tableRoom, makeTable, tableFrom, MakesTable, FillsTable};
+
+// The time of a move, or the number of its refusal.
+pub enum MoveTime {
+    Takes(u32),
+    Refused(u16),
+}
+
+// 0, or 6 where one of the two stops of a move is out of range.
+fn judge_move(from: Stop, to: Stop) -> u16
+    ensures { λ r. ⌜ r ≡ number (moveTime from to) ⌝ }
+{
+    let first = from.judge();
+    if first != 0 {
+        return first;
+    }
+    to.judge()
+}
+
+// The time of a move between two stops in milliseconds; 6 where one is out of range.
+pub fn move_time(from: Stop, to: Stop) -> MoveTime
+    ensures { λ r. ⌜ said r ≡ moveTime from to ⌝ }
+{
+    let number = judge_move(from, to);
+    if number != 0 {
+        return MoveTime::Refused(number);
+    }
+    MoveTime::Takes(travel::time(from, to))
+}
 
 // Whether the table was made, or the number of the refusal.
 pub enum TableMade {
@@ -15,18 +55,29 @@ pub enum TableMade {
     Refused(u16),
 }
 
-// 0, or the number of the refusal for a table of `size` places.
-fn judge(k: u16, coords: &[i32], speeds: &[u16], blends: &[u16], size: usize) -> u16
-    ensures { λ r. ⌜ r ≡ judgeTable k (now (coords .entry)) (now (speeds .entry)) (now (blends .entry)) size ⌝ }
+// 0, or 5 for a k above 10, or 8 for a table of `size` places that is not n² long.
+fn judge_size(k: u16, size: usize) -> u16
+    ensures { λ r. ⌜ r ≡ number (tableRoom k size) ⌝ }
 {
-    if 10 < k {
+    if MAX_K < k {
         return WRONG_K;
     }
     let n = base::stop_count(k);
     if size != n * n {
         return WRONG_SIZE;
     }
-    stop::judge_stops(n, coords, speeds, blends)
+    0
+}
+
+// 0, or the number of the refusal for a table of `size` places.
+fn judge(k: u16, coords: &[i32], speeds: &[u16], blends: &[u16], size: usize) -> u16
+    ensures { λ r. ⌜ r ≡ number (makeTable k (lentStops coords speeds blends) size) ⌝ }
+{
+    let refused = judge_size(k, size);
+    if refused != 0 {
+        return refused;
+    }
+    stop::judge_stops(base::stop_count(k), coords, speeds, blends)
 }
 
 // Writes the time from stop `from` to stop `to` at from * n + to, for each two of the n = 2^k lent stops. Refused are k above 10
@@ -38,12 +89,63 @@ pub fn make_table(
     blends: &[u16],
     table: &mut [u32],
 ) -> TableMade
-    ensures { λ r. ⌜ MadeTable k (now (coords .entry)) (now (speeds .entry)) (now (blends .entry)) (now (table .entry)) (now (table .exit)) r ⌝ }
+    ensures { λ r. ⌜ MakesTable k coords speeds blends table r ⌝ }
 {
     let refused = judge(k, coords, speeds, blends, table.len());
     if refused != 0 {
         return TableMade::Refused(refused);
     }
     fill::write_rows(base::stop_count(k), coords, speeds, blends, table);
+    TableMade::Made
+}
+
+// The time from stop number i, `from`, to stop number j, `to`, in milliseconds: 0 from a stop to itself. Of stops that were not judged it is 0
+// where one of the two is out of range.
+pub fn time_of(i: usize, from: Stop, j: usize, to: Stop) -> u32
+    ensures { λ r. ⌜ r ≡ timeOf i from j to ⌝ }
+{
+    if i == j {
+        return 0;
+    }
+    if judge_move(from, to) != 0 {
+        return 0;
+    }
+    travel::time(from, to)
+}
+
+// The time from stop `from` to stop `to` of path bytes in milliseconds. Of bytes that were not judged it is 0 where one of the two stops is
+// not there or out of range.
+pub fn time_in(bytes: &[u8], version: u16, from: usize, to: usize) -> u32
+    ensures { λ r. ⌜ r ≡ timeIn version (atEntry bytes) from to ⌝ }
+{
+    time_of(
+        from,
+        stop_from(bytes, version, from),
+        to,
+        stop_from(bytes, version, to),
+    )
+}
+
+// 0, or the number of the refusal for a table of `size` places of the stops of path bytes.
+fn judge_path(bytes: &[u8], version: u16, k: u16, size: usize) -> u16
+    ensures { λ r. ⌜ r ≡ number (tableFrom (atEntry bytes) version k size) ⌝ }
+{
+    let refused = judge_size(k, size);
+    if refused != 0 {
+        return refused;
+    }
+    judge_body(bytes, version, k)
+}
+
+// Writes the times between all the stops of path bytes, whose head gave `version` and `k`, as `make_table` does for lent stops. The stops and
+// the end are judged first.
+pub fn table_from(bytes: &[u8], version: u16, k: u16, table: &mut [u32]) -> TableMade
+    ensures { λ r. ⌜ FillsTable bytes version k table r ⌝ }
+{
+    let refused = judge_path(bytes, version, k, table.len());
+    if refused != 0 {
+        return TableMade::Refused(refused);
+    }
+    path_rows::write_path_rows(bytes, version, base::stop_count(k), table);
     TableMade::Made
 }

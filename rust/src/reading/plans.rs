@@ -3,7 +3,7 @@
 use super::{
     paths::Path,
     refusals::put,
-    stops::{put_stops, stops_fit, table_of},
+    stops::table_of,
     tree::{by_enumeration, by_whole_tables, every_set, order_of, refusal},
 };
 
@@ -35,26 +35,18 @@ pub fn plan(k: u16, table: &[u32], order: &mut [u16], totals: &mut [u64], pivots
     }
 }
 
-/// 'one claim over a whole run ..: any path bytes are read, the table is made with the path's k from all the stops that this reading left,
-/// the planner is called with that k on that table', in one call. 'In the head: version, k, then lent lengths (8)': all that is lent. Gives
-/// the version, k and the total.
-#[allow(clippy::too_many_arguments)]
+/// 'one claim over a whole run ..: any path bytes are read, the table is made with the path's k .., the planner is called with that k on that
+/// table', in one call, by 'the travel times of the stops that the bytes mean'. 'In the head: version, k, then lent lengths (8)': all that is
+/// lent. Gives the version, k and the total.
 pub fn plan_path(
     bytes: &[u8],
     highest: u16,
-    coords: &mut [i32],
-    speeds: &mut [u16],
-    blends: &mut [u16],
     table: &mut [u32],
     order: &mut [u16],
     totals: &mut [u64],
     pivots: &mut [u16],
 ) -> Result<(u16, u16, u64), u16> {
-    let path = Path::read(bytes, highest, |k| {
-        let planner = refusal(k, table.len(), order.len(), totals.len(), pivots.len());
-        stops_fit(1 << k, coords, speeds, blends) && planner.is_none()
-    })?;
-    put_stops(&path.stops, coords, speeds, blends);
+    let path = Path::read(bytes, highest, |k| refusal(k, table.len(), order.len(), totals.len(), pivots.len()).is_none())?;
     put(&table_of(&path.stops), table);
     let total = plan_into(path.k, table, order, totals, pivots);
     Ok((path.version, path.k, total))

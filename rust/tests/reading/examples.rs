@@ -54,6 +54,7 @@ fn the_50_example_from_bytes_to_bytes() {
         assert_eq!(run.table, TABLE);
         assert_eq!(run.plan(2), Ok(50));
         assert_eq!(whole.whole(&bytes, 5), Ok((version, 2, 50)));
+        assert_eq!(whole.read(&bytes, 5), Ok((version, 2)));
         assert_eq!(whole, run);
         let mut out = [77; 200];
         assert_eq!(run.write(version, 2, &mut out), Ok(bytes.len() as u64));
@@ -94,6 +95,7 @@ fn one_stop() {
     let path = hex("06 00 01 00 05 00 00 00  12 00 02 00 FF FF FF FF E0 B1 FF FF 20 4E 00 00 D0 07 F4 01  02 00 03 00");
     let mut run = Run::new(0);
     assert_eq!(run.whole(&path, 5), Ok((5, 0, 0)));
+    assert_eq!(run.read(&path, 5), Ok((5, 0)));
     assert_eq!(run.coords, [-1, -20_000, 20_000, 77, 77, 77]);
     assert_eq!((run.speeds[0], run.blends[0], &run.table[..], run.order[0]), (2_000, 500, &[0][..], 0));
     let file = hex("04 00 04 00 00 00  0C 00 05 00 00 00 00 00 00 00 00 00 00 00  03 00 06 00 00  02 00 03 00");
@@ -154,6 +156,7 @@ fn every_k() {
         assert_eq!(lent.write(5, k, &mut path), Ok(path.len() as u64));
         let mut run = Run::new(k);
         let (_, _, total) = run.whole(&path, 5).expect("a good path");
+        assert_eq!(run.read(&path, 5), Ok((5, k)));
         assert_eq!((&run.coords[..3 * n], &run.speeds[..n], &run.blends[..n]), (&lent.coords[..3 * n], &lent.speeds[..n], &lent.blends[..n]));
         let mut file = vec![0; 30 + 3 * n];
         let count = write_order_file(k, &run.order, &run.table, &mut file).expect("an allowed order") as usize;

@@ -78,9 +78,7 @@ impl Run {
         write_path(version, k, &self.coords, &self.speeds, &self.blends, out)
     }
     fn whole(&mut self, bytes: &[u8], highest: u16) -> Result<(u16, u16, u64), u16> {
-        let stops = (&mut self.coords, &mut self.speeds, &mut self.blends);
-        let planner = (&mut self.table, &mut self.order, &mut self.totals, &mut self.pivots);
-        plan_path(bytes, highest, stops.0, stops.1, stops.2, planner.0, planner.1, planner.2, planner.3)
+        plan_path(bytes, highest, &mut self.table, &mut self.order, &mut self.totals, &mut self.pivots)
     }
 }
 

@@ -1,34 +1,19 @@
--- `ffi::ffi_draw` meets its contract: the refusal, or the verdict.
-use mathlib.Core.Path.{sym, _∙_}
+-- `exports::ffi_draw` meets its contract: the refusal, or the verdict.
+use mathlib.Core.Path.{_∙_}
 use native.Mathlib.Omega.{arith}
+use mir.Syntax.{w64}
+use mir.ValLaws.{toZ-pos}
 use borrow.Author.Needs.{needs}
-use borrow.Author.Tests.{eq-eqb, ne-eqb}
-use Rattle.cell.proofs.Signed.{kept, read-count}
-use Rattle.ffi.specs.Results.{drawVerdict}
-use Rattle.ffi.proofs.ffi_draw.Statement.{statement}
-use Rattle.ffi.proofs.ffi_draw.Tie as tie
-
-draw-number-requires : tie.Need-draw-number-requires
-draw-number-requires c κs = search needs
-
-refusal-requires : tie.Need-refusal-requires
-refusal-requires c κs = search needs
-
-returns : tie.Need-returns
-unfolding drawVerdict
-returns c =
-    let d = c .before .before .before .draw-number in
-    rw (sym (d .ensures), ne-eqb _ _ (c .before .if1 .taken)) (kept _ (c .refusal .ok) ∙ c .refusal .ensures)
-
-cast-result : tie.Need-cast-result
-cast-result c = search needs
-
-returns-2 : tie.Need-returns-2
-unfolding drawVerdict
-returns-2 c =
-    let d = c .before .before .before .draw-number in
-    rw (sym (d .ensures), eq-eqb _ _ (c .before .if1 .left)) (read-count _ (omega arith))
+use Rattle.exports.proofs.Exports.{handed, drawn-refused, drawn-else}
+use Rattle.exports.proofs.ffi_draw.Statement.{statement}
+use Rattle.exports.proofs.ffi_draw.Tie as tie
 
 pub ffi-draw-spec : {M : Type 1} → statement M
 ffi-draw-spec =
-    tie.close (tie.spec draw-number-requires refusal-requires returns cast-result returns-2)
+    tie.close
+    (tie.spec
+    (λ c κs. search needs)
+    (λ c κs. search needs)
+    (λ c. handed _ _ (c .refusal .ok) (c .refusal .ensures ∙ drawn-refused _ _ (c .before .before .before .draw-number .ensures) (c .before .if1 .taken)))
+    (λ c. search needs)
+    (λ c. toZ-pos w64 _ (omega arith) ∙ drawn-else _ _ (c .before .before .before .draw-number .ensures) (c .before .if1 .left)))

@@ -1,58 +1,28 @@
--- `ffi::ffi_make_table` meets its contract, by what the call behind it promises.
-use mathlib.Core.Path.{sym, ap, _∙_}
+-- `exports::ffi_make_table` meets its contract, by what the call behind it promises.
+use mathlib.Core.Path.{sym}
+use native.Mathlib.Omega.{arith}
 use borrow.Author.Needs.{needs}
-use Rattle.cell.proofs.Signed.{kept}
-use Rattle.ffi.specs.Results.{tableResult}
-use Rattle.ffi.proofs.ffi_make_table.Statement.{statement}
-use Rattle.ffi.proofs.ffi_make_table.Tie as tie
+use Rattle.times.specs.Table.{said}
+use Rattle.signed.specs.Result.{signed}
+use Rattle.exports.proofs.Exports.{exported, handed}
+use Rattle.signed.proofs.Result.{value-given}
+use Rattle.exports.proofs.ffi_make_table.Statement.{statement}
+use Rattle.exports.proofs.ffi_make_table.Tie as tie
 
-make-table-requires : tie.Need-make-table-requires
-make-table-requires c κs = search needs
-
-enum-told : tie.Need-enum-told
-enum-told c = search needs
-
-enum-known-answer : tie.Need-enum-known-answer
-enum-known-answer c = search needs
-
-refusal-requires : tie.Need-refusal-requires
-refusal-requires c κs = search needs
-
-same-length : tie.Need-same-length
-same-length c = search needs
-
-returns : tie.Need-returns
-unfolding tableResult
-returns c =
-    let p = c .before .before .before .before .make-table in
-    record {
-      answer = p .result;
-      kept = p .ensures;
-      result = sym (ap tableResult (c .enum-told .given .1));
-    }
-
-same-length-2 : tie.Need-same-length-2
-same-length-2 c = search needs
-
-returns-2 : tie.Need-returns-2
-unfolding tableResult
-returns-2 c =
-    let p = c .before .before .before .before .before .before .make-table in
-    record {
-      answer = p .result;
-      kept = p .ensures;
-      result = kept _ (c .refusal .ok) ∙ c .refusal .ensures ∙ sym (ap tableResult (c .before .before .answer .given .1));
-    }
+-- the call, from the place where the lent buffers have come back
+abbrev called : tie.After-slice-known2 → tie.After-make-table
+called c = c .before .before
 
 pub ffi-make-table-spec : {M : Type 1} → statement M
+unfolding said signed
 ffi-make-table-spec =
     tie.close
     (tie.spec
-    make-table-requires
-    enum-told
-    enum-known-answer
-    refusal-requires
-    same-length
-    returns
-    same-length-2
-    returns-2)
+    (λ c κs. search needs)
+    (λ c. search needs)
+    (λ c. search needs)
+    (λ c κs. search needs)
+    (λ c. search needs)
+    (λ c. exported said _ _ _ _ (called (c .before .before) .make-table .ensures) (c .enum-told .given .1) _ (sym (value-given 0 (omega arith))))
+    (λ c. search needs)
+    (λ c. exported said _ _ _ _ (called (c .before .before .before .before) .make-table .ensures) (c .before .before .answer .given .1) _ (handed _ _ (c .refusal .ok) (c .refusal .ensures))))

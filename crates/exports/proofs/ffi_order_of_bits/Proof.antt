@@ -1,58 +1,28 @@
--- `ffi::ffi_order_of_bits` meets its contract, by what the call behind it promises.
-use mathlib.Core.Path.{sym, ap, _∙_}
+-- `exports::ffi_order_of_bits` meets its contract, by what the call behind it promises.
+use mathlib.Core.Path.{sym}
+use native.Mathlib.Omega.{arith}
 use borrow.Author.Needs.{needs}
-use Rattle.cell.proofs.Signed.{kept}
-use Rattle.ffi.specs.Results.{orderResult}
-use Rattle.ffi.proofs.ffi_order_of_bits.Statement.{statement}
-use Rattle.ffi.proofs.ffi_order_of_bits.Tie as tie
+use Rattle.orders.specs.OrderOfBits.{said}
+use Rattle.signed.specs.Result.{signed}
+use Rattle.exports.proofs.Exports.{exported, handed}
+use Rattle.signed.proofs.Result.{value-given}
+use Rattle.exports.proofs.ffi_order_of_bits.Statement.{statement}
+use Rattle.exports.proofs.ffi_order_of_bits.Tie as tie
 
-order-of-bits-requires : tie.Need-order-of-bits-requires
-order-of-bits-requires c κs = search needs
-
-enum-told : tie.Need-enum-told
-enum-told c = search needs
-
-enum-known-answer : tie.Need-enum-known-answer
-enum-known-answer c = search needs
-
-refusal-requires : tie.Need-refusal-requires
-refusal-requires c κs = search needs
-
-same-length : tie.Need-same-length
-same-length c = search needs
-
-returns : tie.Need-returns
-unfolding orderResult
-returns c =
-    let p = c .before .before .before .before .order-of-bits in
-    record {
-      answer = p .result;
-      kept = p .ensures;
-      result = sym (ap orderResult (c .enum-told .given .1));
-    }
-
-same-length-2 : tie.Need-same-length-2
-same-length-2 c = search needs
-
-returns-2 : tie.Need-returns-2
-unfolding orderResult
-returns-2 c =
-    let p = c .before .before .before .before .before .before .order-of-bits in
-    record {
-      answer = p .result;
-      kept = p .ensures;
-      result = kept _ (c .refusal .ok) ∙ c .refusal .ensures ∙ sym (ap orderResult (c .before .before .answer .given .1));
-    }
+-- the call, from the place where the lent buffers have come back
+abbrev called : tie.After-slice-known2 → tie.After-order-of-bits
+called c = c .before .before
 
 pub ffi-order-of-bits-spec : {M : Type 1} → statement M
+unfolding said signed
 ffi-order-of-bits-spec =
     tie.close
     (tie.spec
-    order-of-bits-requires
-    enum-told
-    enum-known-answer
-    refusal-requires
-    same-length
-    returns
-    same-length-2
-    returns-2)
+    (λ c κs. search needs)
+    (λ c. search needs)
+    (λ c. search needs)
+    (λ c κs. search needs)
+    (λ c. search needs)
+    (λ c. exported said _ _ _ _ (called (c .before .before) .order-of-bits .ensures) (c .enum-told .given .1) _ (sym (value-given 0 (omega arith))))
+    (λ c. search needs)
+    (λ c. exported said _ _ _ _ (called (c .before .before .before .before) .order-of-bits .ensures) (c .before .before .answer .given .1) _ (handed _ _ (c .refusal .ok) (c .refusal .ensures))))

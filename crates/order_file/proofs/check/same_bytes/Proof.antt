@@ -16,19 +16,6 @@ Inv-loop count a b i₀ i = (i ≤ count) × ((j : ℕ) → j < i → getD a j 0
 abbrev μ-loop : tie.MeasureT-loop
 μ-loop count a b i₀ i = count - i
 
-loop-holds : tie.Need-loop-holds Inv-loop μ-loop
-loop-holds c = (omega arith, λ j h. absurd (omega arith))
-
-shared-slice-read-if1 : tie.Need-shared-slice-read-if1 Inv-loop μ-loop
-shared-slice-read-if1 c =
-    let s = c .before .before .before in
-    omega (arith, s .pre .0)
-
-shared-slice-read-if1-2 : tie.Need-shared-slice-read-if1-2 Inv-loop μ-loop
-shared-slice-read-if1-2 c =
-    let s = c .before .before .before .before in
-    omega (arith, s .pre .1)
-
 returns : tie.Need-returns Inv-loop μ-loop
 returns c =
     let s = c .before .before .before .before .before in
@@ -38,15 +25,6 @@ returns c =
     let i : ℕ = c .before .before .before .before .loop .i in
     let h : i < n = omega arith in
     sym (differ-alike (take n a) (take n b) i (λ e. c .if1 .taken (sym (getD-take n a i 0 h) ∙ e ∙ getD-take n b i 0 h)))
-
-add-i : tie.Need-add-i Inv-loop μ-loop
-add-i c = omega arith
-
-loop-less : tie.Need-loop-less Inv-loop μ-loop
-loop-less c = omega arith
-
-loop-again : tie.Need-loop-again Inv-loop μ-loop
-loop-again c = (omega arith, below-more _ _ (c .before .before .before .before .loop .inv .1) (c .if1 .left))
 
 returns-2 : tie.Need-returns-2 Inv-loop μ-loop
 returns-2 c =
@@ -65,11 +43,11 @@ same-bytes-spec =
     (tie.spec
     Inv-loop
     μ-loop
-    loop-holds
-    shared-slice-read-if1
-    shared-slice-read-if1-2
+    (λ c. (omega arith, λ j h. absurd (omega arith)))
+    (λ c. let s = c .before .before .before in omega (arith, s .pre .0))
+    (λ c. let s = c .before .before .before .before in omega (arith, s .pre .1))
     returns
-    add-i
-    loop-less
-    loop-again
+    (λ c. omega arith)
+    (λ c. omega arith)
+    (λ c. (omega arith, below-more _ _ (c .before .before .before .before .loop .inv .1) (c .if1 .left)))
     returns-2)

@@ -6,9 +6,10 @@ use native.Mathlib.Omega.{arith}
 use lib.ListN.{length, getD, take}
 use Rattle.records.specs.Field.{bytesOf}
 use Rattle.records.specs.Put.{put}
+use Rattle.records.proofs.PutLaws.{put-two, put-none}
 use Rattle.records.proofs.FieldLaws.{length-bytesOf}
 use Rattle.order_file.specs.File.{stopsPlace, stopBytes}
-use Rattle.order_file.proofs.Putting.{next, put-nothing, stop-more, length-first}
+use Rattle.order_file.proofs.Putting.{stop-more, length-first}
 use borrow.Author.Needs.{needs}
 use Rattle.order_file.proofs.put.put_order.Statement.{statement}
 use Rattle.order_file.proofs.put.put_order.Tie as tie
@@ -23,36 +24,7 @@ loop-holds : tie.Need-loop-holds Inv-loop μ-loop
 unfolding stopBytes
 loop-holds c =
     let s = c .before .before in
-    (omega arith, refl, sym (put-nothing (s .args .out .now) stopsPlace (omega (arith, s .pre .2))))
-
-mul-put16 : tie.Need-mul-put16 Inv-loop μ-loop
-mul-put16 c =
-    let s = c .before .before .before .before .before in
-    record { fits = omega (arith, c .before .before .loop .inv .0, s .pre .0) }
-
-add-put16 : tie.Need-add-put16 Inv-loop μ-loop
-add-put16 c =
-    let s = c .before .before .before .before .before in
-    record { fits = omega (arith, c .before .before .loop .inv .0, s .pre .0) }
-
-mul-put16-2 : tie.Need-mul-put16-2 Inv-loop μ-loop
-mul-put16-2 c =
-    let s = c .before .before .before .before .before in
-    record { fits = omega (arith, c .before .before .loop .inv .0, s .pre .0) }
-
-shared-slice-read-put16 : tie.Need-shared-slice-read-put16 Inv-loop μ-loop
-shared-slice-read-put16 c =
-    let s = c .before .before .before .before .before .before in
-    omega (arith, s .pre .1)
-
-put16-requires : tie.Need-put16-requires Inv-loop μ-loop
-put16-requires c κs = search needs
-
-add-p : tie.Need-add-p Inv-loop μ-loop
-add-p c = omega arith
-
-loop-less : tie.Need-loop-less Inv-loop μ-loop
-loop-less c = omega arith
+    (omega arith, refl, sym (put-none (s .args .out .now) stopsPlace (omega (arith, s .pre .2))))
 
 loop-again : tie.Need-loop-again Inv-loop μ-loop
 loop-again c =
@@ -64,10 +36,7 @@ loop-again c =
     let b : p < length order = omega (arith, s .pre .1) in
     let long : length (stopBytes (take p order)) ≡ 2 * p = length-first order p (omega arith) in
     let two : length (bytesOf 2 (getD order p 0)) ≡ 2 = length-bytesOf 2 _ in
-    (omega arith, c .before .before .put16 .kept .0 ∙ l .inv .1, next out stopsPlace (stopBytes (take p order)) (bytesOf 2 (getD order p 0)) (l .out) _ (18 + 2 * p) (l .inv .2) (c .before .before .put16 .ensures) (omega arith) (omega (arith, s .pre .2)) ∙ ap (put out stopsPlace) (stop-more order p b))
-
-same-length : tie.Need-same-length Inv-loop μ-loop
-same-length c = c .before .loop .inv .1
+    (omega arith, c .before .before .put16 .kept .0 ∙ l .inv .1, put-two out stopsPlace (stopBytes (take p order)) (bytesOf 2 (getD order p 0)) (l .out) _ (18 + 2 * p) (omega (arith, s .pre .2)) (omega arith) (l .inv .2) (c .before .before .put16 .ensures) ∙ ap (put out stopsPlace) (stop-more order p b))
 
 returns : tie.Need-returns Inv-loop μ-loop
 returns c =
@@ -83,13 +52,13 @@ put-order-spec =
     Inv-loop
     μ-loop
     loop-holds
-    mul-put16
-    add-put16
-    mul-put16-2
-    shared-slice-read-put16
-    put16-requires
-    add-p
-    loop-less
+    (λ c. let s = c .before .before .before .before .before in record { fits = omega (arith, c .before .before .loop .inv .0, s .pre .0) })
+    (λ c. let s = c .before .before .before .before .before in record { fits = omega (arith, c .before .before .loop .inv .0, s .pre .0) })
+    (λ c. let s = c .before .before .before .before .before in record { fits = omega (arith, c .before .before .loop .inv .0, s .pre .0) })
+    (λ c. let s = c .before .before .before .before .before .before in omega (arith, s .pre .1))
+    (λ c κs. search needs)
+    (λ c. omega arith)
+    (λ c. omega arith)
     loop-again
-    same-length
+    (λ c. c .before .loop .inv .1)
     returns)

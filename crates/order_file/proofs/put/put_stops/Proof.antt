@@ -6,37 +6,14 @@ use native.Mathlib.Omega.{arith}
 use lib.ListN.{length, take, length-append}
 use Rattle.records.specs.Field.{bytesOf}
 use Rattle.records.specs.Put.{put}
+use Rattle.records.proofs.PutLaws.{put-three}
 use Rattle.records.proofs.FieldLaws.{length-bytesOf}
 use Rattle.records.proofs.LengthLaws.{stops-length}
-use Rattle.order_file.specs.File.{stopsBytes, stopBytes}
-use Rattle.order_file.proofs.Putting.{next, record-parts, length-first}
+use Rattle.order_file.specs.File.{stopsRecord, stopsBytes, stopBytes}
+use Rattle.order_file.proofs.Putting.{record-parts, length-first}
 use borrow.Author.Needs.{needs}
 use Rattle.order_file.proofs.put.put_stops.Statement.{statement}
 use Rattle.order_file.proofs.put.put_stops.Tie as tie
-
-record-length-requires : tie.Need-record-length-requires
-record-length-requires c κs = search needs
-
-mul-put-pair : tie.Need-mul-put-pair
-mul-put-pair c = search needs
-
-add-put-pair : tie.Need-add-put-pair
-add-put-pair c = record { fits = omega (arith, c .record-length .ensures, stops-length 5 0, c .before .before .before .before .pre .0) }
-
-cast-put-pair : tie.Need-cast-put-pair
-cast-put-pair c = record { fits = omega (arith, c .record-length .ensures, stops-length 5 0, c .before .before .before .before .pre .0) }
-
-put-pair-requires : tie.Need-put-pair-requires
-put-pair-requires c κs = search needs
-
-put64-requires : tie.Need-put64-requires
-put64-requires c κs = search needs
-
-put-order-requires : tie.Need-put-order-requires
-put-order-requires c κs = search needs
-
-same-length : tie.Need-same-length
-same-length c = search needs
 
 returns : tie.Need-returns
 unfolding stopsBytes
@@ -55,24 +32,21 @@ returns c =
     let four : length head ≡ 4 = rw (length-append, length-bytesOf, length-bytesOf) in
     let eight : length sum ≡ 8 = length-bytesOf 8 _ in
     let rest : length stops ≡ 2 * n = length-first (s .args .order .now) n (s .pre .1) in
-    let both : length (head ++ sum) ≡ 12 = rw length-append (omega arith) in
-    let first : t .put64 .last .0 ≡ put out 6 (head ++ sum)
-    = next out 6 head sum (p .put-pair .last .0) (t .put64 .last .0) 10 (p .put-pair .ensures) (t .put64 .ensures) (omega arith) (omega (arith, s .pre .2)) in
-    let second : o .put-order .last .1 .1 .0 ≡ put out 6 (head ++ sum ++ stops)
-    = next out 6 (head ++ sum) stops (t .put64 .last .0) (o .put-order .last .1 .1 .0) 18 first (o .put-order .ensures) (omega arith) (omega (arith, s .pre .2)) in
+    let written : o .put-order .last .1 .1 .0 ≡ put out stopsRecord (head ++ sum ++ stops)
+    = put-three out stopsRecord head sum stops _ _ _ 10 18 (omega (arith, s .pre .2)) (omega arith) (omega arith) (p .put-pair .ensures) (t .put64 .ensures) (o .put-order .ensures) in
     let content : length (sum ++ stops) ≡ 8 + 2 * n = rw length-append (omega arith) in
-    second ∙ ap (put out 6) (append-assoc head sum stops ∙ record-parts 5 long (sum ++ stops) (omega arith))
+    written ∙ ap (put out stopsRecord) (append-assoc head sum stops ∙ record-parts 5 long (sum ++ stops) (omega arith))
 
 pub put-stops-spec : {M : Type 1} → statement M
 put-stops-spec =
     tie.close
     (tie.spec
-    record-length-requires
-    mul-put-pair
-    add-put-pair
-    cast-put-pair
-    put-pair-requires
-    put64-requires
-    put-order-requires
-    same-length
+    (λ c κs. search needs)
+    (λ c. search needs)
+    (λ c. record { fits = omega (arith, c .record-length .ensures, stops-length 5 0, c .before .before .before .before .pre .0) })
+    (λ c. record { fits = omega (arith, c .record-length .ensures, stops-length 5 0, c .before .before .before .before .pre .0) })
+    (λ c κs. search needs)
+    (λ c κs. search needs)
+    (λ c κs. search needs)
+    (λ c. search needs)
     returns)

@@ -15,41 +15,16 @@ Inv-loop count bits₀ i₀ bits i = (i ≤ count) × (length bits ≡ length bi
 abbrev μ-loop : tie.MeasureT-loop
 μ-loop count bits₀ i₀ bits i = count - i
 
-loop-holds : tie.Need-loop-holds Inv-loop μ-loop
-loop-holds c = (omega arith, search needs, fill-none (c .args .bits .now) 0)
-
-slice-write-bits : tie.Need-slice-write-bits Inv-loop μ-loop
-slice-write-bits c = omega arith
-
-add-i : tie.Need-add-i Inv-loop μ-loop
-add-i c = omega arith
-
-loop-less : tie.Need-loop-less Inv-loop μ-loop
-loop-less c = omega arith
-
-loop-again : tie.Need-loop-again Inv-loop μ-loop
-loop-again c =
-    let l = c .before .loop in
-    (omega arith, simp length-set (l .inv .1), rw (l .inv .2) (fill-more (l .i) 0 (c .before .before .args .bits .now) (omega arith)))
-
-same-length : tie.Need-same-length Inv-loop μ-loop
-same-length c = c .before .loop .inv .1
-
-returns : tie.Need-returns Inv-loop μ-loop
-returns c =
-    let e : c .before .loop .i ≡ c .before .before .args .count = omega arith in
-    rw (← e) (c .before .loop .inv .2)
-
 pub clear-spec : {M : Type 1} → statement M
 clear-spec =
     tie.close
     (tie.spec
     Inv-loop
     μ-loop
-    loop-holds
-    slice-write-bits
-    add-i
-    loop-less
-    loop-again
-    same-length
-    returns)
+    (λ c. (omega arith, search needs, fill-none (c .args .bits .now) 0))
+    (λ c. omega arith)
+    (λ c. omega arith)
+    (λ c. omega arith)
+    (λ c. let l = c .before .loop in (omega arith, simp length-set (l .inv .1), rw (l .inv .2) (fill-more (l .i) 0 (c .before .before .args .bits .now) (omega arith))))
+    (λ c. c .before .loop .inv .1)
+    (λ c. let e : c .before .loop .i ≡ c .before .before .args .count = omega arith in rw (← e) (c .before .loop .inv .2)))

@@ -35,32 +35,11 @@ fork-is k p b n r x y w = rw (w .count, w .is) (lowest-shift k p b x y)
 fork-lt : (n b r : ℕ) → b < n → (n + b) / (2 * r) < n
 fork-lt n b r h = omega (arith, div-div-eq-div-mul (n + b) 2 r, div-le-self ((n + b) / 2) r)
 
-stop-count-requires : tie.Need-stop-count-requires
-stop-count-requires c κs = search needs
-
-reach-requires : tie.Need-reach-requires
-reach-requires c κs = search needs
-
 -- what is known where the bit is to be set
 at-raise : (c : tie.After-raise-arg) → Known (c .before .before .before .before .before .args .k) (c .before .before .before .before .before .args .p) (c .before .before .before .stop-count .result) (c .before .before .reach .result)
 at-raise c =
     let s = c .before .before .before .before .before in
     known (s .args .k) (s .args .p) _ _ (s .pre .0) (s .pre .1) (s .pre .2) (c .before .before .before .stop-count .ensures) (c .before .before .reach .ensures)
-
-div-if1 : tie.Need-div-if1
-div-if1 c =
-    let s = c .before .before .before in
-    let w = known (s .args .k) (s .args .p) (c .before .stop-count .result) (c .reach .result) (s .pre .0) (s .pre .1) (s .pre .2) (c .before .stop-count .ensures) (c .reach .ensures) in
-    w .pos
-
-add-raise : tie.Need-add-raise
-add-raise c = record { fits = omega (arith, at-raise c .small, at-raise c .count, c .before .before .before .before .before .pre .3) }
-
-mul-raise : tie.Need-mul-raise
-mul-raise c = record { fits = omega (arith, at-raise c .small, at-raise c .below) }
-
-div-raise : tie.Need-div-raise
-div-raise c = omega (arith, at-raise c .pos)
 
 raise-requires : tie.Need-raise-requires
 raise-requires c κs =
@@ -68,9 +47,6 @@ raise-requires c κs =
     let n : ℕ = c .before .before .before .stop-count .result in
     let r : ℕ = c .before .before .reach .result in
     omega (arith, at-raise c .count, s .pre .4, fork-lt n (s .args .stop) r (omega (arith, at-raise c .count, s .pre .3)))
-
-same-length : tie.Need-same-length
-same-length c = search needs
 
 returns : tie.Need-returns
 returns c =
@@ -91,13 +67,13 @@ pub mark-fork-spec : {M : Type 1} → statement M
 mark-fork-spec =
     tie.close
     (tie.spec
-    stop-count-requires
-    reach-requires
-    div-if1
-    add-raise
-    mul-raise
-    div-raise
+    (λ c κs. search needs)
+    (λ c κs. search needs)
+    (λ c. let s = c .before .before .before in let w = known (s .args .k) (s .args .p) (c .before .stop-count .result) (c .reach .result) (s .pre .0) (s .pre .1) (s .pre .2) (c .before .stop-count .ensures) (c .reach .ensures) in w .pos)
+    (λ c. record { fits = omega (arith, at-raise c .small, at-raise c .count, c .before .before .before .before .before .pre .3) })
+    (λ c. record { fits = omega (arith, at-raise c .small, at-raise c .below) })
+    (λ c. omega (arith, at-raise c .pos))
     raise-requires
-    same-length
+    (λ c. search needs)
     returns
     returns-2)

@@ -21,28 +21,12 @@ use Rattle.orders.proofs.forks.only_forks.Tie as tie
 some-byte : (k : ℕ) → 0 < byteCount (2 ^ k)
 some-byte k = omega (arith, pow-pos k)
 
-shared-slice-read-first : tie.Need-shared-slice-read-first
-shared-slice-read-first c =
-    let s = c .before .before in
-    omega (arith, some-byte (s .args .k), s .pre .1)
-
-cast-first : tie.Need-cast-first
-cast-first c = omega (arith, c .shared-slice-known2 .given 0)
-
 returns : tie.Need-returns
 returns c =
     let s = c .before .before .before in
     let k : ℕ = s .args .k in
     let l = s .args .bits .now in
     sym (odd-not k (setOfBits (take (byteCount (2 ^ k)) l)) (λ e. c .if1 .taken (sym (first-odd (byteCount (2 ^ k)) l (some-byte k)) ∙ e)))
-
-stop-count-requires : tie.Need-stop-count-requires
-stop-count-requires c κs = search needs
-
-shl-result : tie.Need-shl-result
-shl-result c =
-    let s = c .before .before .before .before .before in
-    omega (arith, c .stop-count .ensures, stopCount-pow (s .args .k) (s .pre .0), pow-mono {i = s .args .k} {j = 2} (omega arith))
 
 returns-2 : tie.Need-returns-2
 unfolding onlyForks
@@ -74,10 +58,10 @@ pub only-forks-spec : {M : Type 1} → statement M
 only-forks-spec =
     tie.close
     (tie.spec
-    shared-slice-read-first
-    cast-first
+    (λ c. let s = c .before .before in omega (arith, some-byte (s .args .k), s .pre .1))
+    (λ c. omega (arith, c .shared-slice-known2 .given 0))
     returns
-    stop-count-requires
-    shl-result
+    (λ c κs. search needs)
+    (λ c. let s = c .before .before .before .before .before in omega (arith, c .stop-count .ensures, stopCount-pow (s .args .k) (s .pre .0), pow-mono {i = s .args .k} {j = 2} (omega arith)))
     returns-2
     returns-3)

@@ -11,21 +11,6 @@ use borrow.Author.Needs.{needs}
 use Rattle.orders.proofs.forks.raise.Statement.{statement}
 use Rattle.orders.proofs.forks.raise.Tie as tie
 
-slice-read-bits : tie.Need-slice-read-bits
-slice-read-bits c = search needs
-
-cast-bits : tie.Need-cast-bits
-cast-bits c = search needs
-
-shl-bits : tie.Need-shl-bits
-shl-bits c = search needs
-
-slice-write-bits : tie.Need-slice-write-bits
-slice-write-bits c = search needs
-
-same-length : tie.Need-same-length
-same-length c = search needs
-
 returns : tie.Need-returns
 unfolding raised
 returns c =
@@ -35,4 +20,4 @@ returns c =
 
 pub raise-spec : {M : Type 1} → statement M
 raise-spec =
-    tie.close (tie.spec slice-read-bits cast-bits shl-bits slice-write-bits same-length returns)
+    tie.close (tie.spec (λ c. search needs) (λ c. search needs) (λ c. search needs) (λ c. search needs) (λ c. search needs) returns)

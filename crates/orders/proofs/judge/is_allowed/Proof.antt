@@ -24,62 +24,16 @@ abbrev μ-loop : tie.MeasureT-loop
 test-is : (n p : ℕ) (o : List ℕ) → 1 ≤ p → p < n → mayFollow p (getD o (p - 1) 0) (getD o p 0) ≡ mayFollow p (inPlace (take n o) (p - 1)) (inPlace (take n o) p)
 test-is n p o a b = rw (getD-take n o p 0 b, getD-take n o (p - 1) 0 (omega arith))
 
-loop-holds : tie.Need-loop-holds Inv-loop μ-loop
-loop-holds c = (omega arith, λ q a b. absurd (omega arith))
+-- in the loop
+abbrev at-loop : tie.After-may-follow Inv-loop μ-loop → tie.At-loop Inv-loop μ-loop
+at-loop c = c .before .before .before .before
 
-sub-may-follow : tie.Need-sub-may-follow Inv-loop μ-loop
-sub-may-follow c = omega arith
+abbrev start : tie.At-loop Inv-loop μ-loop → tie.Start Inv-loop μ-loop
+start c = c .before .before
 
-mul-may-follow : tie.Need-mul-may-follow Inv-loop μ-loop
-mul-may-follow c = omega arith
-
-shared-slice-read-may-follow : tie.Need-shared-slice-read-may-follow Inv-loop μ-loop
-shared-slice-read-may-follow c = omega arith
-
-mul-may-follow-2 : tie.Need-mul-may-follow-2 Inv-loop μ-loop
-mul-may-follow-2 c = omega arith
-
-shared-slice-read-may-follow-2 : tie.Need-shared-slice-read-may-follow-2 Inv-loop μ-loop
-shared-slice-read-may-follow-2 c = omega arith
-
-may-follow-requires : tie.Need-may-follow-requires Inv-loop μ-loop
-may-follow-requires c κs = omega arith
-
-returns : tie.Need-returns Inv-loop μ-loop
-returns c =
-    let s = c .before .before .before .before .before .before .before in
-    let n : ℕ = s .args .n in
-    let o = s .args .order .now in
-    let p : ℕ = c .before .before .before .before .before .loop .p in
-    let a : 1 ≤ p = c .before .before .before .before .before .loop .inv .0 in
-    let b : p < n = c .before .before .before .before .loop-test .taken in
-    sym (fails-not (s .args .k) (take n o) p a (rw (← s .pre .0) b) (sym (test-is n p o a b) ∙ sym (c .before .may-follow .ensures) ∙ not-true _ (c .if1 .taken)))
-
-add-p : tie.Need-add-p Inv-loop μ-loop
-add-p c = omega arith
-
-loop-less : tie.Need-loop-less Inv-loop μ-loop
-loop-less c = omega arith
-
-loop-again : tie.Need-loop-again Inv-loop μ-loop
-loop-again c =
-    let s = c .before .before .before .before .before .before .before in
-    let n : ℕ = s .args .n in
-    let o = s .args .order .now in
-    let p : ℕ = c .before .before .before .before .before .loop .p in
-    let a : 1 ≤ p = c .before .before .before .before .before .loop .inv .0 in
-    let b : p < n = c .before .before .before .before .loop-test .taken in
-    let here : mayFollow p (inPlace (take n o) (p - 1)) (inPlace (take n o) p) ≡ true
-    = sym (test-is n p o a b) ∙ sym (c .before .may-follow .ensures) ∙ not-false _ (c .if1 .left) in
-    (omega arith, λ q x y. more (λ q. mayFollow q (inPlace (take n o) (q - 1)) (inPlace (take n o) q) ≡ true) p (c .before .before .before .before .before .loop .inv .1) here q x y)
-
-returns-2 : tie.Need-returns-2 Inv-loop μ-loop
-returns-2 c =
-    let s = c .before .before .before in
-    let n : ℕ = s .args .n in
-    let o = s .args .order .now in
-    let fits : n ≤ length o = s .pre .1 in
-    sym (passes-allowed (s .args .k) (take n o) (length-take-le n o fits ∙ s .pre .0) (subst (λ x. stopsBelow x (take n o) ≡ true) (s .pre .0) (s .pre .2)) (λ p a b. c .before .loop .inv .1 p a (omega (arith, s .pre .0))))
+tested : (c : tie.After-may-follow Inv-loop μ-loop) → let a = start (at-loop c) .args in let p = at-loop c .loop .p in
+    mayFollow p (inPlace (take (a .n) (a .order .now)) (p - 1)) (inPlace (take (a .n) (a .order .now)) p) ≡ c .may-follow .result
+tested c = sym (c .may-follow .ensures ∙ test-is _ _ (start (at-loop c) .args .order .now) (at-loop c .loop .inv .0) (c .before .before .before .loop-test .taken))
 
 pub is-allowed-spec : {M : Type 1} → statement M
 is-allowed-spec =
@@ -87,15 +41,26 @@ is-allowed-spec =
     (tie.spec
     Inv-loop
     μ-loop
-    loop-holds
-    sub-may-follow
-    mul-may-follow
-    shared-slice-read-may-follow
-    mul-may-follow-2
-    shared-slice-read-may-follow-2
-    may-follow-requires
-    returns
-    add-p
-    loop-less
-    loop-again
-    returns-2)
+    (λ c. (omega arith, λ q a b. absurd (omega arith)))
+    (λ c. omega arith)
+    (λ c. omega arith)
+    (λ c. omega arith)
+    (λ c. omega arith)
+    (λ c. omega arith)
+    (λ c κs. omega arith)
+    (λ c.
+    let l = at-loop (c .before) in
+    let s = start l in
+    sym (fails-not (s .args .k) (take (s .args .n) (s .args .order .now)) (l .loop .p) (l .loop .inv .0) (rw (← s .pre .0) (c .before .before .before .before .loop-test .taken)) (tested (c .before) ∙ not-true _ (c .if1 .taken))))
+    (λ c. omega arith)
+    (λ c. omega arith)
+    (λ c.
+    let l = at-loop (c .before) in
+    let o = take (start l .args .n) (start l .args .order .now) in
+    (omega arith, λ q x y. more (λ q. mayFollow q (inPlace o (q - 1)) (inPlace o q) ≡ true) (l .loop .p) (l .loop .inv .1) (tested (c .before) ∙ not-false _ (c .if1 .left)) q x y))
+    (λ c.
+    let s = start (c .before) in
+    let n : ℕ = s .args .n in
+    let o : List ℕ = s .args .order .now in
+    let fits : n ≤ length o = s .pre .1 in
+    sym (passes-allowed (s .args .k) (take n o) (length-take-le n o fits ∙ s .pre .0) (subst (λ x. stopsBelow x (take n o) ≡ true) (s .pre .0) (s .pre .2)) (λ p a b. c .before .loop .inv .1 p a (omega (arith, s .pre .0))))))

@@ -15,18 +15,6 @@ Inv-loop n order p₀ p = (p ≤ n) × ((q : ℕ) → q < p → getD order q 0 <
 abbrev μ-loop : tie.MeasureT-loop
 μ-loop n order p₀ p = n - p
 
-loop-holds : tie.Need-loop-holds Inv-loop μ-loop
-loop-holds c = (omega arith, λ q h. absurd (omega arith))
-
-mul-if1 : tie.Need-mul-if1 Inv-loop μ-loop
-mul-if1 c = omega arith
-
-shared-slice-read-if1 : tie.Need-shared-slice-read-if1 Inv-loop μ-loop
-shared-slice-read-if1 c = omega arith
-
-cast-if1 : tie.Need-cast-if1 Inv-loop μ-loop
-cast-if1 c = omega (arith, c .shared-slice-known .given (c .before .before .loop .p))
-
 returns : tie.Need-returns Inv-loop μ-loop
 returns c =
     let a = c .before .before .before .before .args in
@@ -36,15 +24,6 @@ returns c =
     let b : p < n = omega arith in
     let fits : n ≤ length o = c .before .before .before .before .pre in
     sym (below-not n (take n o) p (omega (arith, length-take-le n o fits)) (rw (getD-take n o p 0 b) (c .if1 .taken)))
-
-add-p : tie.Need-add-p Inv-loop μ-loop
-add-p c = omega arith
-
-loop-less : tie.Need-loop-less Inv-loop μ-loop
-loop-less c = omega arith
-
-loop-again : tie.Need-loop-again Inv-loop μ-loop
-loop-again c = (omega arith, below-more _ _ (c .before .before .before .loop .inv .1) (omega arith))
 
 returns-2 : tie.Need-returns-2 Inv-loop μ-loop
 returns-2 c =
@@ -61,12 +40,12 @@ stops-below-spec =
     (tie.spec
     Inv-loop
     μ-loop
-    loop-holds
-    mul-if1
-    shared-slice-read-if1
-    cast-if1
+    (λ c. (omega arith, λ q h. absurd (omega arith)))
+    (λ c. omega arith)
+    (λ c. omega arith)
+    (λ c. omega (arith, c .shared-slice-known .given (c .before .before .loop .p)))
     returns
-    add-p
-    loop-less
-    loop-again
+    (λ c. omega arith)
+    (λ c. omega arith)
+    (λ c. (omega arith, below-more _ _ (c .before .before .before .loop .inv .1) (omega arith)))
     returns-2)

@@ -18,14 +18,6 @@ Inv-loop k bits p v₀ d₀ v d = Way k (setOfBits (take (byteCount (2 ^ k)) bit
 abbrev μ-loop : tie.MeasureT-loop
 μ-loop k bits p v₀ d₀ v d = d
 
-loop-holds : tie.Need-loop-holds Inv-loop μ-loop
-loop-holds c =
-    let s = c .before in
-    way-root (s .args .k) (setOfBits (take (byteCount (2 ^ s .args .k)) (s .args .bits .now))) (s .args .p)
-
-sub-d : tie.Need-sub-d Inv-loop μ-loop
-sub-d c = omega arith
-
 go-down-requires : tie.Need-go-down-requires Inv-loop μ-loop
 go-down-requires c κs =
     let s = c .before .before .before in
@@ -33,9 +25,6 @@ go-down-requires c κs =
     let k : ℕ = s .args .k in
     let fork : l .v < 2 ^ k = way-fork k _ (s .args .p) (l .d) (l .v) (omega arith) (l .inv) in
     (omega (arith, pow-le-1024 k (s .pre .0)), omega (arith, l .inv .above, s .pre .0), omega (arith, s .pre .1))
-
-loop-less : tie.Need-loop-less Inv-loop μ-loop
-loop-less c = omega arith
 
 loop-again : tie.Need-loop-again Inv-loop μ-loop
 loop-again c =
@@ -49,9 +38,6 @@ loop-again c =
     let fork : l .v < 2 ^ k = way-fork k F p (l .d) (l .v) d (l .inv) in
     let bit-is : stringBit b (l .v) ≡ bit F (l .v) = fork-bit k b (λ j. c .before .before .before .shared-slice-known .given j .fits) (s .pre .1) (l .v) fork in
     way-down k F p (l .d) (l .v) (c .go-down .result) d (l .inv) (c .go-down .ensures ∙ ap (λ (x : ℕ). side (l .v) ((bit p (l .d - 1) + x) % 2)) bit-is)
-
-stop-count-requires : tie.Need-stop-count-requires Inv-loop μ-loop
-stop-count-requires c κs = search needs
 
 sub-result : tie.Need-sub-result Inv-loop μ-loop
 sub-result c =
@@ -79,11 +65,11 @@ stop-in-spec =
     (tie.spec
     Inv-loop
     μ-loop
-    loop-holds
-    sub-d
+    (λ c. let s = c .before in way-root (s .args .k) (setOfBits (take (byteCount (2 ^ s .args .k)) (s .args .bits .now))) (s .args .p))
+    (λ c. omega arith)
     go-down-requires
-    loop-less
+    (λ c. omega arith)
     loop-again
-    stop-count-requires
+    (λ c κs. search needs)
     sub-result
     returns)

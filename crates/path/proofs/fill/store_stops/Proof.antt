@@ -6,11 +6,10 @@ use denote.Ref.{now}
 use lib.ListN.{length}
 use Rattle.stop.specs.Lent.{coordsOf, speedsOf, blendsOf}
 use Rattle.stop.specs.declared.Stop.{Stop}
-use Rattle.path.specs.Over.{over}
-use Rattle.path.specs.Reading.{stopsIn}
+use Rattle.base.specs.Outcome.{over}
+use Rattle.path.specs.Path.{stopsIn}
 use Rattle.path.proofs.FillLaws.{next-coords, next-speeds, next-blends}
 use Rattle.path.specs.Path.{stopIn}
-use Rattle.path.proofs.OverLaws.{over-nil}
 use native.Mathlib.Numerals.{add-one}
 use borrow.Author.Needs.{needs}
 use Rattle.path.proofs.fill.store_stops.Statement.{statement}
@@ -27,7 +26,7 @@ abbrev μ-loop : tie.MeasureT-loop
 
 loop-holds : tie.Need-loop-holds Inv-loop μ-loop
 unfolding coordsOf speedsOf blendsOf
-loop-holds c = (omega arith, sym (over-nil _), sym (over-nil _), sym (over-nil _), refl, refl, refl)
+loop-holds c = (omega arith, refl, refl, refl, refl, refl, refl)
 
 stop-from-requires : tie.Need-stop-from-requires Inv-loop μ-loop
 stop-from-requires c κs = search needs

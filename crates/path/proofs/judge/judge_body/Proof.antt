@@ -1,88 +1,46 @@
--- `path::judge_body` meets its contract: what is left to judge at stop i gives the number of the whole.
+-- `path::judge_body` meets its contract: the version, k, and then the stops.
 use mathlib.Core.Path.{_≡_, sym, ap, _∙_}
-use Prim.Native.Nat.{ℕ, suc, _+_, _-_, _≤_}
-use native.Mathlib.Omega.{arith}
+use mathlib.Core.Bool.{true, false}
+use Prim.Native.Nat.{ℕ}
 use denote.Ref.{now}
 use lib.ListN.{drop}
-use Rattle.path.specs.Path.{readBody, bodyNumber, stopPlace}
-use Rattle.path.proofs.PlaceLaws.{place-zero}
-use Rattle.path.proofs.BodyLaws.{body-refused, place-after}
-use native.Mathlib.Numerals.{add-one}
-use native.Mathlib.Nat.{sub-zero}
+use borrow.Author.Tests.{not-true, not-false, le-leb, lt-leb}
 use borrow.Author.Needs.{needs}
+use Rattle.base.specs.Outcome.{number}
+use Rattle.base.proofs.Size.{stopCount-pow}
+use Rattle.path.specs.Path.{knownVersion, readBody, bodyAfterHead}
+use Rattle.path.proofs.JudgeLaws.{after-head}
 use Rattle.path.proofs.judge.judge_body.Statement.{statement}
 use Rattle.path.proofs.judge.judge_body.Tie as tie
 
-abbrev Inv-loop : tie.InvT-loop
-Inv-loop bytes version k count i₀ i = (i ≤ count) × (bodyNumber (readBody version (count - i) (drop (stopPlace version i) bytes)) ≡ bodyNumber (readBody version count (drop 8 bytes)))
-
-abbrev μ-loop : tie.MeasureT-loop
-μ-loop bytes version k count i₀ i = count - i
-
-stop-count-requires : tie.Need-stop-count-requires Inv-loop μ-loop
-stop-count-requires c κs = search needs
-
-loop-holds : tie.Need-loop-holds Inv-loop μ-loop
-loop-holds c = (omega arith, rw (sub-zero, place-zero))
-
-judge-stop-requires : tie.Need-judge-stop-requires Inv-loop μ-loop
-judge-stop-requires c κs = search needs
-
-returns : tie.Need-returns Inv-loop μ-loop
+returns : tie.Need-returns
+unfolding bodyAfterHead
 returns c =
-    let a = c .before .before .before .before .before .before .args in
-    let i = c .before .before .before .loop .i in
-    let count = c .before .before .before .before .stop-count .result in
-    let more : count - i ≡ suc (count - (i + 1)) = omega arith in
-    c .before .judge-stop .ensures
-    ∙ sym (body-refused (a .version) (count - (i + 1)) (drop (stopPlace (a .version) i) (now (a .bytes))) (λ z. c .if1 .taken (c .before .judge-stop .ensures ∙ z)))
-    ∙ (rw more at (c .before .before .before .loop .inv .1))
-    ∙ ap (λ (n : ℕ). bodyNumber (readBody (a .version) n (drop 8 (now (a .bytes))))) (c .before .before .before .before .stop-count .ensures)
+    let unknown : knownVersion (c .before .before .before .args .version) ≡ false = sym (c .before .known-version .ensures) ∙ not-true _ (c .if1 .taken) in
+    rw unknown
 
-add-i : tie.Need-add-i Inv-loop μ-loop
-add-i c = search needs
-
-loop-less : tie.Need-loop-less Inv-loop μ-loop
-loop-less c = search needs
-
-loop-again : tie.Need-loop-again Inv-loop μ-loop
-loop-again c =
-    let a = c .before .before .before .before .before .before .args in
-    let i = c .before .before .before .loop .i in
-    let count = c .before .before .before .before .stop-count .result in
-    let more : count - i ≡ suc (count - (i + 1)) = omega arith in (
-      omega arith,
-      rw (add-one i)
-          (sym (place-after (a .version) (count - suc i) i (now (a .bytes)) (sym (c .before .judge-stop .ensures) ∙ c .if1 .left))
-          ∙ (rw (more, add-one i) at (c .before .before .before .loop .inv .1))),
-    )
-
-judge-end-requires : tie.Need-judge-end-requires Inv-loop μ-loop
-judge-end-requires c κs = search needs
-
-returns-2 : tie.Need-returns-2 Inv-loop μ-loop
+returns-2 : tie.Need-returns-2
+unfolding bodyAfterHead
 returns-2 c =
-    let a = c .before .before .before .before .before .args in
-    let i = c .before .before .loop .i in
-    let count = c .before .before .before .stop-count .result in
-    let done : i ≡ count = omega arith in
-    let none : count - count ≡ 0 = omega arith in
-    c .judge-end .ensures
-    ∙ (rw (done, none) at (c .before .before .loop .inv .1))
-    ∙ ap (λ (n : ℕ). bodyNumber (readBody (a .version) n (drop 8 (now (a .bytes))))) (c .before .before .before .stop-count .ensures)
+    let known : knownVersion (c .before .before .before .before .args .version) ≡ true = sym (c .before .before .known-version .ensures) ∙ not-false _ (c .before .if1 .left) in
+    rw (known, lt-leb _ _ (c .if2 .taken))
+
+returns-3 : tie.Need-returns-3
+returns-3 c =
+    let tests = c .before .before in
+    let a = tests .before .before .before .before .args in
+    let known = sym (tests .before .before .known-version .ensures) ∙ not-false _ (tests .before .if1 .left) in
+    c .judge-stops .ensures
+    ∙ ap (λ (n : ℕ). number (readBody (a .version) n (drop 8 (now (a .bytes))))) (c .before .stop-count .ensures ∙ stopCount-pow (a .k) (tests .if2 .left))
+    ∙ ap number (sym (after-head (now (a .bytes)) (a .version) (a .k) known (tests .if2 .left)))
 
 pub judge-body-spec : {M : Type 1} → statement M
 judge-body-spec =
     tie.close
     (tie.spec
-    Inv-loop
-    μ-loop
-    stop-count-requires
-    loop-holds
-    judge-stop-requires
+    (λ c κs. search needs)
     returns
-    add-i
-    loop-less
-    loop-again
-    judge-end-requires
-    returns-2)
+    returns-2
+    (λ c κs. search needs)
+    (λ c κs. search needs)
+    returns-3)

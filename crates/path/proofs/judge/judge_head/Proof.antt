@@ -1,119 +1,90 @@
 -- `path::judge_head` meets its contract: at each return the tests that led there say which outcome it is.
-use mathlib.Core.Path.{_≡_, sym, ap, _∙_}
+use mathlib.Core.Path.{_≡_, refl, sym, ap, _∙_}
+use mathlib.Core.Bool.{true}
+use mathlib.Core.List.{List}
+use Prim.Native.Nat.{ℕ}
 use denote.Ref.{now}
 use lib.ListN.{take, drop}
 use borrow.Author.Tests.{not-true, not-false}
-use Rattle.path.specs.Path.{noHead, readHead, headFields}
-use Rattle.path.specs.Reading.{headAnswer}
-use Rattle.records.specs.Record.{recordLength, takeRecord, takenNumber, taken}
-use Rattle.records.specs.Field.{number}
-use Rattle.path.proofs.HeadLaws.{head-unknown, head-refused, head-fields, fields-unknown, fields-above, fields-large, fields-good}
 use borrow.Author.Needs.{needs}
+use Rattle.base.specs.Outcome.{Outcome, number}
+use Rattle.records.specs.Field.{numberOf}
+use Rattle.records.specs.Record.{recordLength, takeRecord}
+use Rattle.path.specs.declared.Head.{Head}
+use Rattle.path.specs.Path.{PathHead, knownVersion, readHead, headFields}
+use Rattle.path.specs.Reading.{headGiven}
+use Rattle.path.proofs.HeadLaws.{head-unknown, head-refused, head-fields, fields-unknown, fields-above, fields-large, fields-good}
 use Rattle.path.proofs.judge.judge_head.Statement.{statement}
 use Rattle.path.proofs.judge.judge_head.Tie as tie
 
--- the fields of a head whose record is whole
-fields : (c : tie.Else2) →
-    readHead (now (c .before .before .before .before .before .before .args .bytes)) (c .before .before .before .before .before .before .args .highest) ≡ headFields (c .before .before .before .before .before .before .args .highest) (number (take 2 (drop 4 (now (c .before .before .before .before .before .before .args .bytes))))) (number (take 2 (drop 6 (now (c .before .before .before .before .before .before .args .bytes))))) (drop 8 (now (c .before .before .before .before .before .before .args .bytes)))
-fields c =
-    let a = c .before .before .before .before .before .before .args in
-    head-fields (now (a .bytes)) (a .highest)
-    (sym (c .before .before .before .before .known-version .ensures) ∙ not-false _ (c .before .before .before .if1 .left))
-    (rw (c .before .before .record-length .ensures) at (sym (c .before .judge-record .ensures) ∙ c .if2 .left))
+-- the highest version is known
+highest-known : (c : tie.Else1) → knownVersion (c .before .before .before .args .highest) ≡ true
+highest-known c = sym (c .before .known-version .ensures) ∙ not-false _ (c .if1 .left)
 
-known-version-requires : tie.Need-known-version-requires
-known-version-requires c κs = search needs
+-- the number of the head's record
+record-number : (c : tie.After-judge-record) → c .judge-record .result ≡ number (takeRecord 1 (recordLength 1 (c .before .before .before .before .before .args .highest) 0) (now (c .before .before .before .before .before .args .bytes)))
+record-number c = c .judge-record .ensures ∙ rw (c .before .record-length .ensures)
 
-no-head-requires : tie.Need-no-head-requires
-no-head-requires c κs = search needs
+-- an answer for the fields of a head whose record is whole
+given : (bytes : List ℕ) (highest v k : ℕ) (r : Head) (o : Outcome PathHead) → readHead bytes highest ≡ headFields highest (numberOf (take 2 (drop 4 bytes))) (numberOf (take 2 (drop 6 bytes))) (drop 8 bytes) → v ≡ numberOf (take 2 (drop 4 bytes)) → k ≡ numberOf (take 2 (drop 6 bytes)) → headFields highest v k (drop 8 bytes) ≡ o → r ≡ headGiven o → r ≡ headGiven (readHead bytes highest)
+given bytes highest v k r o e ev ek eo er = rw (e, ← ev, ← ek, eo) er
 
-returns : tie.Need-returns
-returns c = c .no-head .ensures ∙ ap headAnswer (sym (head-unknown (now (c .before .before .before .before .args .bytes)) (c .before .before .before .before .args .highest) (sym (c .before .before .known-version .ensures) ∙ not-true _ (c .before .if1 .taken))))
+fields : (c : tie.Else2) → readHead (now (c .before .before .before .before .before .before .args .bytes)) (c .before .before .before .before .before .before .args .highest) ≡ headFields (c .before .before .before .before .before .before .args .highest) (numberOf (take 2 (drop 4 (now (c .before .before .before .before .before .before .args .bytes))))) (numberOf (take 2 (drop 6 (now (c .before .before .before .before .before .before .args .bytes))))) (drop 8 (now (c .before .before .before .before .before .before .args .bytes)))
+fields c = head-fields _ _ (highest-known (c .before .before .before)) (sym (record-number (c .before)) ∙ c .if2 .left)
 
-record-length-requires : tie.Need-record-length-requires
-record-length-requires c κs = search needs
-
-judge-record-requires : tie.Need-judge-record-requires
-judge-record-requires c κs = search needs
-
-no-head-requires-2 : tie.Need-no-head-requires-2
-no-head-requires-2 c κs = search needs
-
-returns-2 : tie.Need-returns-2
-returns-2 c =
-    let a = c .before .before .before .before .before .before .before .args in
-    let r : c .before .before .judge-record .result ≡ takenNumber (takeRecord 1 (recordLength 1 (a .highest) 0) (now (a .bytes))) =
-    c .before .before .judge-record .ensures ∙ rw (c .before .before .before .record-length .ensures) in
-    c .no-head2 .ensures
-    ∙ ap headAnswer
-    (ap noHead r
-    ∙ sym (head-refused (now (a .bytes)) (a .highest) (sym (c .before .before .before .before .before .known-version .ensures) ∙ not-false _ (c .before .before .before .before .if1 .left)) (λ z. c .before .if2 .taken (r ∙ z))))
-
-field16-requires : tie.Need-field16-requires
-field16-requires c κs = search needs
-
-field16-requires-2 : tie.Need-field16-requires-2
-field16-requires-2 c κs = search needs
-
-known-version-requires-2 : tie.Need-known-version-requires-2
-known-version-requires-2 c κs = search needs
-
-no-head-requires-3 : tie.Need-no-head-requires-3
-no-head-requires-3 c κs = search needs
+-- the version is known, and k is read
+version-known : (c : tie.Else3) → knownVersion (c .before .before .before .field16 .result) ≡ true
+version-known c = sym (c .before .known-version2 .ensures) ∙ not-false _ (c .if3 .left)
 
 returns-3 : tie.Need-returns-3
 returns-3 c =
-    let a = c .before .before .before .before .before .before .before .before .before .before .before .args in
-    let v : c .before .before .before .before .field16 .result ≡ number (take 2 (drop 4 (now (a .bytes)))) = c .before .before .before .before .field16 .ensures in
-    let n : c .before .before .before .field162 .result ≡ number (take 2 (drop 6 (now (a .bytes)))) = c .before .before .before .field162 .ensures in
-    rw (fields (c .before .before .before .before .before), ← v, ← n) (c .no-head3 .ensures ∙ ap headAnswer (sym (fields-unknown (a .highest) (c .before .before .before .before .field16 .result) (c .before .before .before .field162 .result) (drop 8 (now (a .bytes))) (sym (c .before .before .known-version2 .ensures) ∙ not-true _ (c .before .if3 .taken)))))
-
-no-head-requires-4 : tie.Need-no-head-requires-4
-no-head-requires-4 c κs = search needs
+    let v = c .before .before .before in
+    given _ _ _ _ _ _ (fields (v .before .before)) (v .before .field16 .ensures) (v .field162 .ensures)
+    (fields-unknown _ _ _ _ (sym (c .before .before .known-version2 .ensures) ∙ not-true _ (c .before .if3 .taken)))
+    (c .no-head3 .ensures)
 
 returns-4 : tie.Need-returns-4
 returns-4 c =
-    let a = c .before .before .before .before .before .before .before .before .before .before .before .before .args in
-    let v : c .before .before .before .before .before .field16 .result ≡ number (take 2 (drop 4 (now (a .bytes)))) = c .before .before .before .before .before .field16 .ensures in
-    let n : c .before .before .before .before .field162 .result ≡ number (take 2 (drop 6 (now (a .bytes)))) = c .before .before .before .before .field162 .ensures in
-    rw (fields (c .before .before .before .before .before .before), ← v, ← n) (c .no-head4 .ensures ∙ ap headAnswer (sym (fields-above (a .highest) (c .before .before .before .before .before .field16 .result) (c .before .before .before .before .field162 .result) (drop 8 (now (a .bytes))) (sym (c .before .before .before .known-version2 .ensures) ∙ not-false _ (c .before .before .if3 .left)) (c .before .if4 .taken))))
-
-no-head-requires-5 : tie.Need-no-head-requires-5
-no-head-requires-5 c κs = search needs
+    let known = c .before .before in
+    let v = known .before .before in
+    given _ _ _ _ _ _ (fields (v .before .before)) (v .before .field16 .ensures) (v .field162 .ensures)
+    (fields-above _ _ _ _ (version-known known) (c .before .if4 .taken))
+    (c .no-head4 .ensures)
 
 returns-5 : tie.Need-returns-5
 returns-5 c =
-    let a = c .before .before .before .before .before .before .before .before .before .before .before .before .before .args in
-    let v : c .before .before .before .before .before .before .field16 .result ≡ number (take 2 (drop 4 (now (a .bytes)))) = c .before .before .before .before .before .before .field16 .ensures in
-    let n : c .before .before .before .before .before .field162 .result ≡ number (take 2 (drop 6 (now (a .bytes)))) = c .before .before .before .before .before .field162 .ensures in
-    rw (fields (c .before .before .before .before .before .before .before), ← v, ← n) (c .no-head5 .ensures ∙ ap headAnswer (sym (fields-large (a .highest) (c .before .before .before .before .before .before .field16 .result) (c .before .before .before .before .before .field162 .result) (drop 8 (now (a .bytes))) (sym (c .before .before .before .before .known-version2 .ensures) ∙ not-false _ (c .before .before .before .if3 .left)) (c .before .before .if4 .left) (c .before .if5 .taken))))
+    let known = c .before .before .before in
+    let v = known .before .before in
+    given _ _ _ _ _ _ (fields (v .before .before)) (v .before .field16 .ensures) (v .field162 .ensures)
+    (fields-large _ _ _ _ (version-known known) (c .before .before .if4 .left) (c .before .if5 .taken))
+    (c .no-head5 .ensures)
 
 returns-6 : tie.Need-returns-6
-unfolding headAnswer
 returns-6 c =
-    let a = c .before .before .before .before .before .before .before .before .before .before .before .before .args in
-    let v : c .before .before .before .before .before .field16 .result ≡ number (take 2 (drop 4 (now (a .bytes)))) = c .before .before .before .before .before .field16 .ensures in
-    let n : c .before .before .before .before .field162 .result ≡ number (take 2 (drop 6 (now (a .bytes)))) = c .before .before .before .before .field162 .ensures in
-    rw (fields (c .before .before .before .before .before .before), ← v, ← n) (ap headAnswer (sym (fields-good (a .highest) (c .before .before .before .before .before .field16 .result) (c .before .before .before .before .field162 .result) (drop 8 (now (a .bytes))) (sym (c .before .before .before .known-version2 .ensures) ∙ not-false _ (c .before .before .if3 .left)) (c .before .if4 .left) (c .if5 .left))))
+    let known = c .before .before in
+    let v = known .before .before in
+    given _ _ _ _ _ _ (fields (v .before .before)) (v .before .field16 .ensures) (v .field162 .ensures)
+    (fields-good _ _ _ _ (version-known known) (c .before .if4 .left) (c .if5 .left))
+    refl
 
 pub judge-head-spec : {M : Type 1} → statement M
 judge-head-spec =
     tie.close
     (tie.spec
-    known-version-requires
-    no-head-requires
-    returns
-    record-length-requires
-    judge-record-requires
-    no-head-requires-2
-    returns-2
-    field16-requires
-    field16-requires-2
-    known-version-requires-2
-    no-head-requires-3
+    (λ c κs. search needs)
+    (λ c κs. search needs)
+    (λ c. c .no-head .ensures ∙ ap headGiven (sym (head-unknown _ _ (sym (c .before .before .known-version .ensures) ∙ not-true _ (c .before .if1 .taken)))))
+    (λ c κs. search needs)
+    (λ c κs. search needs)
+    (λ c κs. search needs)
+    (λ c. c .no-head2 .ensures ∙ ap headGiven (sym (head-refused _ _ (highest-known (c .before .before .before .before)) _ (record-number (c .before .before)) (c .before .if2 .taken))))
+    (λ c κs. search needs)
+    (λ c κs. search needs)
+    (λ c κs. search needs)
+    (λ c κs. search needs)
     returns-3
-    no-head-requires-4
+    (λ c κs. search needs)
     returns-4
-    no-head-requires-5
+    (λ c κs. search needs)
     returns-5
     returns-6)

@@ -1,62 +1,61 @@
--- `path::judge_write` meets its contract: at each return the tests that led there say which number it is.
-use Rattle.stop.specs.Lent.{lentStops, judgeLent}
-use Rattle.path.specs.Written.{losesAny}
-use mathlib.Core.Path.{sym, ap, _∙_}
-use Prim.Native.Nat.{ℕ}
-use denote.Ref.{now}
+-- `path::judge_write` meets its contract: at each return the tests that led there say which outcome it is.
+use mathlib.Core.Path.{_≡_, sym, ap, _∙_}
+use mathlib.Core.Bool.{Bool, true}
+use Prim.Native.Nat.{ℕ, _^_}
 use borrow.Author.Tests.{not-true, not-false}
-use Rattle.path.proofs.WriteLaws.{write-version, write-k, write-stops, write-lost, write-short, write-good}
 use borrow.Author.Needs.{needs}
+use Rattle.base.specs.Outcome.{number}
+use Rattle.base.proofs.Size.{stopCount-pow}
+use Rattle.stop.specs.Lent.{LentStops, heldStops, firstStops, judgeLent}
+use Rattle.stop.proofs.Lent.{length-first}
+use Rattle.path.specs.Path.{knownVersion}
+use Rattle.path.specs.Local.{judgeOutput}
+use Rattle.path.specs.Written.{losesAny}
+use Rattle.path.proofs.WriteLaws.{write-version, write-k, write-stops, write-output, output-number}
 use Rattle.path.proofs.write.judge_write.Statement.{statement}
 use Rattle.path.proofs.write.judge_write.Tie as tie
 
-known-version-requires : tie.Need-known-version-requires
-known-version-requires c κs = search needs
+-- the lent buffers
+abbrev lent : tie.Else1 → LentStops
+lent c = let a = c .before .before .before .before .args in heldStops (a .coords) (a .speeds) (a .blends)
 
-returns : tie.Need-returns
-returns c = sym (write-version (c .before .before .before .before .args .version) (c .before .before .before .before .args .k) (now (c .before .before .before .before .args .coords)) (now (c .before .before .before .before .args .speeds)) (now (c .before .before .before .before .args .blends)) (c .before .before .before .before .args .room) (sym (c .before .known-version .ensures) ∙ not-true _ (c .if1 .taken)))
+-- the version is known
+known : (c : tie.Else1) → knownVersion (c .before .before .before .before .args .version) ≡ true
+known c = sym (c .before .known-version .ensures) ∙ not-false _ (c .if1 .left)
 
-returns-2 : tie.Need-returns-2
-returns-2 c = sym (write-k (c .before .before .before .before .before .args .version) (c .before .before .before .before .before .args .k) (now (c .before .before .before .before .before .args .coords)) (now (c .before .before .before .before .before .args .speeds)) (now (c .before .before .before .before .before .args .blends)) (c .before .before .before .before .before .args .room) (sym (c .before .before .known-version .ensures) ∙ not-false _ (c .before .if1 .left)) (c .if2 .taken))
+-- as many stops as the code counts, and their number
+counted : (c : tie.After-stop-count) → c .stop-count .result ≡ 2 ^ c .before .before .before .before .before .before .args .k
+counted c = c .stop-count .ensures ∙ stopCount-pow _ (c .before .if2 .left)
 
-stop-count-requires : tie.Need-stop-count-requires
-stop-count-requires c κs = search needs
-
-judge-stops-requires : tie.Need-judge-stops-requires
-judge-stops-requires c κs = search needs
+judged : (c : tie.After-judge-stops) → c .judge-stops .result ≡ number (judgeLent (2 ^ c .before .before .before .before .before .before .before .args .k) (lent (c .before .before .before)))
+judged c = c .judge-stops .ensures ∙ ap (λ (n : ℕ). number (judgeLent n (lent (c .before .before .before)))) (counted (c .before))
 
 returns-3 : tie.Need-returns-3
 returns-3 c =
-    let j = (c .before .judge-stops .ensures ∙ ap (λ (n : ℕ). judgeLent n (now (c .before .before .before .before .before .before .before .before .args .coords)) (now (c .before .before .before .before .before .before .before .before .args .speeds)) (now (c .before .before .before .before .before .before .before .before .args .blends))) (c .before .before .stop-count .ensures)) in
-    j ∙ sym (write-stops (c .before .before .before .before .before .before .before .before .args .version) (c .before .before .before .before .before .before .before .before .args .k) (now (c .before .before .before .before .before .before .before .before .args .coords)) (now (c .before .before .before .before .before .before .before .before .args .speeds)) (now (c .before .before .before .before .before .before .before .before .args .blends)) (c .before .before .before .before .before .before .before .before .args .room) (sym (c .before .before .before .before .before .known-version .ensures) ∙ not-false _ (c .before .before .before .before .if1 .left)) (c .before .before .before .if2 .left) (λ z. c .if3 .taken (j ∙ z)))
-
-loses-any-requires : tie.Need-loses-any-requires
-loses-any-requires c κs = search needs
+    let tests = c .before .before .before in
+    sym (ap number (write-stops _ _ (lent (tests .before)) _ (known (tests .before)) (tests .if2 .left) _ (judged (c .before)) (c .if3 .taken)))
 
 returns-4 : tie.Need-returns-4
-returns-4 c = sym (write-lost (c .before .before .before .before .before .before .before .before .before .before .args .version) (c .before .before .before .before .before .before .before .before .before .before .args .k) (now (c .before .before .before .before .before .before .before .before .before .before .args .coords)) (now (c .before .before .before .before .before .before .before .before .before .before .args .speeds)) (now (c .before .before .before .before .before .before .before .before .before .before .args .blends)) (c .before .before .before .before .before .before .before .before .before .before .args .room) (sym (c .before .before .before .before .before .before .before .known-version .ensures) ∙ not-false _ (c .before .before .before .before .before .before .if1 .left)) (c .before .before .before .before .before .if2 .left) (sym (c .before .before .before .judge-stops .ensures ∙ ap (λ (n : ℕ). judgeLent n (now (c .before .before .before .before .before .before .before .before .before .before .args .coords)) (now (c .before .before .before .before .before .before .before .before .before .before .args .speeds)) (now (c .before .before .before .before .before .before .before .before .before .before .args .blends))) (c .before .before .before .before .stop-count .ensures)) ∙ c .before .before .if3 .left) (sym (c .before .loses-any .ensures ∙ ap (λ (n : ℕ). losesAny (c .before .before .before .before .before .before .before .before .before .before .args .version) (lentStops n (now (c .before .before .before .before .before .before .before .before .before .before .args .coords)) (now (c .before .before .before .before .before .before .before .before .before .before .args .speeds)) (now (c .before .before .before .before .before .before .before .before .before .before .args .blends)))) (c .before .before .before .before .stop-count .ensures)) ∙ c .if4 .taken))
-
-path-size-requires : tie.Need-path-size-requires
-path-size-requires c κs = search needs
-
-returns-5 : tie.Need-returns-5
-returns-5 c = sym (write-short (c .before .before .before .before .before .before .before .before .before .before .before .before .args .version) (c .before .before .before .before .before .before .before .before .before .before .before .before .args .k) (now (c .before .before .before .before .before .before .before .before .before .before .before .before .args .coords)) (now (c .before .before .before .before .before .before .before .before .before .before .before .before .args .speeds)) (now (c .before .before .before .before .before .before .before .before .before .before .before .before .args .blends)) (c .before .before .before .before .before .before .before .before .before .before .before .before .args .room) (sym (c .before .before .before .before .before .before .before .before .before .known-version .ensures) ∙ not-false _ (c .before .before .before .before .before .before .before .before .if1 .left)) (c .before .before .before .before .before .before .before .if2 .left) (sym (c .before .before .before .before .before .judge-stops .ensures ∙ ap (λ (n : ℕ). judgeLent n (now (c .before .before .before .before .before .before .before .before .before .before .before .before .args .coords)) (now (c .before .before .before .before .before .before .before .before .before .before .before .before .args .speeds)) (now (c .before .before .before .before .before .before .before .before .before .before .before .before .args .blends))) (c .before .before .before .before .before .before .stop-count .ensures)) ∙ c .before .before .before .before .if3 .left) (sym (c .before .before .before .loses-any .ensures ∙ ap (λ (n : ℕ). losesAny (c .before .before .before .before .before .before .before .before .before .before .before .before .args .version) (lentStops n (now (c .before .before .before .before .before .before .before .before .before .before .before .before .args .coords)) (now (c .before .before .before .before .before .before .before .before .before .before .before .before .args .speeds)) (now (c .before .before .before .before .before .before .before .before .before .before .before .before .args .blends)))) (c .before .before .before .before .before .before .stop-count .ensures)) ∙ c .before .before .if4 .left) (rw (c .before .path-size .ensures) at (c .if5 .taken)))
-
-returns-6 : tie.Need-returns-6
-returns-6 c = sym (write-good (c .before .before .before .before .before .before .before .before .before .before .before .before .args .version) (c .before .before .before .before .before .before .before .before .before .before .before .before .args .k) (now (c .before .before .before .before .before .before .before .before .before .before .before .before .args .coords)) (now (c .before .before .before .before .before .before .before .before .before .before .before .before .args .speeds)) (now (c .before .before .before .before .before .before .before .before .before .before .before .before .args .blends)) (c .before .before .before .before .before .before .before .before .before .before .before .before .args .room) (sym (c .before .before .before .before .before .before .before .before .before .known-version .ensures) ∙ not-false _ (c .before .before .before .before .before .before .before .before .if1 .left)) (c .before .before .before .before .before .before .before .if2 .left) (sym (c .before .before .before .before .before .judge-stops .ensures ∙ ap (λ (n : ℕ). judgeLent n (now (c .before .before .before .before .before .before .before .before .before .before .before .before .args .coords)) (now (c .before .before .before .before .before .before .before .before .before .before .before .before .args .speeds)) (now (c .before .before .before .before .before .before .before .before .before .before .before .before .args .blends))) (c .before .before .before .before .before .before .stop-count .ensures)) ∙ c .before .before .before .before .if3 .left) (sym (c .before .before .before .loses-any .ensures ∙ ap (λ (n : ℕ). losesAny (c .before .before .before .before .before .before .before .before .before .before .before .before .args .version) (lentStops n (now (c .before .before .before .before .before .before .before .before .before .before .before .before .args .coords)) (now (c .before .before .before .before .before .before .before .before .before .before .before .before .args .speeds)) (now (c .before .before .before .before .before .before .before .before .before .before .before .before .args .blends)))) (c .before .before .before .before .before .before .stop-count .ensures)) ∙ c .before .before .if4 .left) (rw (c .before .path-size .ensures) at (c .if5 .left)))
+returns-4 c =
+    let stops = c .before .before .before in
+    let tests = stops .before .before in
+    let a = tests .before .before .before .before .before .args in
+    let loses = c .before .loses-any .ensures ∙ ap (λ (n : ℕ). losesAny (a .version) (firstStops n (lent (tests .before)))) (counted (stops .before)) in
+    c .judge-output .ensures
+    ∙ ap (λ (l : Bool). number (judgeOutput l (a .version) (a .k) (a .room))) loses
+    ∙ output-number (a .version) (a .k) (a .room) _ (length-first (2 ^ a .k) (lent (tests .before)))
+    ∙ sym (ap number (write-output _ _ (lent (tests .before)) _ (known (tests .before)) (tests .if2 .left) (sym (judged stops) ∙ c .before .before .if3 .left)))
 
 pub judge-write-spec : {M : Type 1} → statement M
 judge-write-spec =
     tie.close
     (tie.spec
-    known-version-requires
-    returns
-    returns-2
-    stop-count-requires
-    judge-stops-requires
+    (λ c κs. search needs)
+    (λ c. sym (ap number (write-version _ _ _ _ (sym (c .before .known-version .ensures) ∙ not-true _ (c .if1 .taken)))))
+    (λ c. sym (ap number (write-k _ _ _ _ (known (c .before)) (c .if2 .taken))))
+    (λ c κs. search needs)
+    (λ c κs. search needs)
     returns-3
-    loses-any-requires
-    returns-4
-    path-size-requires
-    returns-5
-    returns-6)
+    (λ c κs. search needs)
+    (λ c κs. search needs)
+    returns-4)

@@ -3,7 +3,7 @@ use mathlib.Core.Logic.{⊎-elim}
 use Prim.Native.Nat.{_-_, _<_}
 use native.Mathlib.Omega.{arith}
 use Rattle.tree.specs.Neighbour.{trail}
-use Rattle.planner.specs.Row.{rowOf, Closed}
+use Rattle.planner.specs.Row.{rowOf, BlockClosed}
 use Rattle.planner.proofs.Table.{sizes-small}
 use Rattle.planner.proofs.Blocks.{aligned-small, aligned-even, pow-half, place-trail, place-count, closed, rowOf-cases, rows-apart}
 use Rattle.planner.proofs.Rows.{next-holds}
@@ -26,7 +26,7 @@ next-row-requires c κs =
     let count = place-count q (sizes-small s) in
     let small = place-trail q in
     let many : 0 < q .m = omega (arith, small) in
-    let fits : Closed (trail (a .p)) (a .base) (a .size) = rw (q .width) (closed (trail (a .p)) (q .stops) small) in (
+    let fits : BlockClosed (trail (a .p)) (a .base) (a .size) = rw (q .width) (closed (trail (a .p)) (q .stops) small) in (
       s,
       (
         (rw e (rows-apart (a .n) (a .p)), rw count (omega (arith, aligned-small (q .stops) (sizes-small s))), omega (arith, q .width, q .stops .inside), aligned-even (q .stops) many, omega (arith, q .width, pow-half (q .m) many)),

@@ -4,7 +4,7 @@ use mathlib.Core.Path.{_≡_}
 use Prim.Native.Nat.{ℕ, _+_, _-_, _%_, _^_, _≤_, _<_}
 use native.Mathlib.Omega.{arith}
 use Rattle.tree.specs.Block.{besideOf}
-use Rattle.planner.specs.Row.{Held}
+use Rattle.planner.specs.Row.{TotalsBounded}
 use Rattle.planner.proofs.Table.{sizes-small, sizes-with}
 use Rattle.planner.proofs.Made.{Made, made-none, made-two}
 use Rattle.planner.proofs.row.next_row.Statement.{statement}
@@ -27,7 +27,7 @@ add-loop c = omega (arith, sizes-small (c .before .before .before .before .pre .
 
 -- the candidates of a stop of the block, on the way
 near : (c : tie.After-settle-two-arg2 Inv-loop μ-loop) (i : ℕ) → c .before .before .before .before .before .before .before .args .base ≤ i → i < c .before .before .before .before .before .before .before .args .base + c .before .before .before .before .before .before .before .args .size
-    → (besideOf i (c .before .before .before .before .before .before .before .args .t) + 2 ^ c .before .before .before .before .before .before .before .args .t ≤ c .before .before .before .before .before .before .before .args .n) × Held (c .before .before .before .before .before .before .before .args .old) (besideOf i (c .before .before .before .before .before .before .before .args .t)) (2 ^ c .before .before .before .before .before .before .before .args .t) (c .before .before .before .loop .totals)
+    → (besideOf i (c .before .before .before .before .before .before .before .args .t) + 2 ^ c .before .before .before .before .before .before .before .args .t ≤ c .before .before .before .before .before .before .before .args .n) × TotalsBounded (c .before .before .before .before .before .before .before .args .old) (besideOf i (c .before .before .before .before .before .before .before .args .t)) (2 ^ c .before .before .before .before .before .before .before .args .t) (c .before .before .before .loop .totals)
 near c i x y =
     let q = c .before .before .before .before .before .before .before .pre in
     let low = q .1 .1 .0 .low i x y in

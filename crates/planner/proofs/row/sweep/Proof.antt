@@ -5,7 +5,7 @@ use native.Mathlib.Nat.{sub-self}
 use native.Mathlib.Omega.{arith}
 use lib.ListN.{length}
 use lib.Pow.{pow-pos}
-use Rattle.planner.specs.Row.{blockGraph, rowOf, Row}
+use Rattle.planner.specs.Row.{blockGraph, rowOf, RowHolds}
 use Rattle.planner.proofs.Table.{sizes-small, sizes-with, sizes-order}
 use Rattle.planner.proofs.Blocks.{aligned-small, rowOf-before, pow-half, first-row-at, last-row-at, last-move, middle-there, middle-in}
 use Rattle.planner.proofs.Rows.{first-holds, row-held, row-at}
@@ -16,7 +16,7 @@ abbrev Inv-loop : tie.InvT-loop
 Inv-loop table n order totals₀ pivots₀ left base m size mid p₀ p-end totals pivots p =
     (left + 1 ≤ p) × (p ≤ left + size) × (p-end ≡ left + size) × (size ≡ 2 ^ m) × (mid ≡ left + 2 ^ (m - 1) - 1)
     × (length totals ≡ n + n) × (length pivots ≡ n + n)
-    × Row (blockGraph n table order left) (mid - left) (p - (left + 1)) (n - rowOf n p) base size totals pivots
+    × RowHolds (blockGraph n table order left) (mid - left) (p - (left + 1)) (n - rowOf n p) base size totals pivots
 
 abbrev μ-loop : tie.MeasureT-loop
 μ-loop table n order totals₀ pivots₀ left base m size mid p₀ p-end totals pivots p = left + size - p

@@ -1,15 +1,37 @@
 -- `reader::draw_number` meets its contract: before turn i the step is draw i; an answer that is no stop is every later one.
 use mathlib.Core.Path.{_≡_, sym, ap, _∙_}
+use mathlib.Core.List.{List}
 use Prim.Native.Nat.{ℕ, _+_, _-_, _≤_}
 use native.Mathlib.Numerals.{add-one}
 use native.Mathlib.Omega.{arith}
 use denote.Ref.{now}
-use Rattle.reader.specs.declared.Step.{Step}
-use Rattle.reader.specs.Draws.{stepAt, stepsFrom}
-use Rattle.reader.proofs.DrawsLaws.{draws-are, draws-repeat, steps-zero, steps-suc}
 use borrow.Author.Needs.{needs}
+use Rattle.path.specs.Draw.{drawAt}
+use Rattle.reader.specs.declared.Step.{Step}
+use Rattle.reader.specs.Draws.{drawAnswer, stepAt, stepsFrom}
+use Rattle.reader.proofs.DrawsLaws.{draws-are, draws-repeat, steps-zero, steps-suc}
 use Rattle.reader.proofs.draws.draw_number.Statement.{statement}
 use Rattle.reader.proofs.draws.draw_number.Tie as tie
+
+-- ---- a step s that is draw i
+
+module _ (bytes : List ℕ) (highest i : ℕ) (s : Step) (here : s ≡ stepsFrom bytes 0 highest i) where
+  -- where it is no stop, every later draw has its answer
+  stays : (d : ℕ) → i ≤ d → (s .drawn .verdict ≡ 0 → ⊥) → s .drawn ≡ drawAnswer (drawAt bytes highest d)
+  stays d h f =
+      let on : i + (d - i) ≡ d = omega arith in
+      let same : stepsFrom bytes 0 highest (i + (d - i)) ≡ stepsFrom bytes 0 highest i = draws-repeat bytes 0 highest i (λ z. f (ap (λ (s : Step). s .drawn .verdict) here ∙ z)) (d - i) in
+      ap (λ (s : Step). s .drawn) (here ∙ sym same) ∙ rw on (draws-are bytes highest d)
+
+  -- the last one asked for
+  last : (d : ℕ) → i ≡ d → s .drawn ≡ drawAnswer (drawAt bytes highest d)
+  last d e = ap (λ (s : Step). s .drawn) here ∙ rw e (draws-are bytes highest d)
+
+  -- and the step after it
+  more : (t : Step) → t ≡ stepAt bytes (s .at) (s .version) → t ≡ stepsFrom bytes 0 highest (i + 1)
+  more t e = rw (add-one i) (e ∙ ap (λ (s : Step). stepAt bytes (s .at) (s .version)) here ∙ sym (steps-suc bytes 0 highest i))
+
+-- ---- the loop
 
 abbrev Inv-loop : tie.InvT-loop
 Inv-loop bytes highest d step₀ -i₀ step -i = (-i ≤ d) × (step ≡ stepsFrom bytes 0 highest -i)
@@ -17,51 +39,8 @@ Inv-loop bytes highest d step₀ -i₀ step -i = (-i ≤ d) × (step ≡ stepsFr
 abbrev μ-loop : tie.MeasureT-loop
 μ-loop bytes highest d step₀ -i₀ step -i = d - -i
 
-draw-at-requires : tie.Need-draw-at-requires Inv-loop μ-loop
-draw-at-requires c κs = search needs
-
-loop-holds : tie.Need-loop-holds Inv-loop μ-loop
-loop-holds c = (omega arith, c .draw-at .ensures ∙ sym (steps-zero (now (c .before .before .args .bytes)) 0 (c .before .before .args .highest)))
-
-returns : tie.Need-returns Inv-loop μ-loop
-returns c =
-    let a = c .before .before .before .before .before .before .before .args in
-    let i = c .before .before .before .before .loop .-i in
-    let here : c .before .before .before .before .loop .step ≡ stepsFrom (now (a .bytes)) 0 (a .highest) i = c .before .before .before .before .loop .inv .1 in
-    let on : i + (a .d - i) ≡ a .d = omega arith in
-    ap (λ (s : Step). s .drawn) here
-    ∙ ap (λ (s : Step). s .drawn) (sym (draws-repeat (now (a .bytes)) 0 (a .highest) i (λ z. c .if1 .taken (ap (λ (s : Step). s .drawn .verdict) here ∙ z)) (a .d - i)))
-    ∙ ap (λ (n : ℕ). stepsFrom (now (a .bytes)) 0 (a .highest) n .drawn) on
-    ∙ draws-are (now (a .bytes)) (a .highest) (a .d)
-
-draw-at-requires-2 : tie.Need-draw-at-requires-2 Inv-loop μ-loop
-draw-at-requires-2 c κs = search needs
-
-add--i : tie.Need-add--i Inv-loop μ-loop
-add--i c = search needs
-
-loop-less : tie.Need-loop-less Inv-loop μ-loop
-loop-less c = search needs
-
 loop-again : tie.Need-loop-again Inv-loop μ-loop
-loop-again c =
-    let a = c .before .before .before .before .before .before .before .before .args in
-    let i = c .before .before .before .before .before .loop .-i in
-    let here : c .before .before .before .before .before .loop .step ≡ stepsFrom (now (a .bytes)) 0 (a .highest) i = c .before .before .before .before .before .loop .inv .1 in (
-      omega arith,
-      rw (add-one i)
-          (c .draw-at2 .ensures
-          ∙ ap (λ (s : Step). stepAt (now (a .bytes)) (s .at) (s .version)) here
-          ∙ sym (steps-suc (now (a .bytes)) 0 (a .highest) i)),
-    )
-
-returns-2 : tie.Need-returns-2 Inv-loop μ-loop
-returns-2 c =
-    let a = c .before .before .before .before .before .args in
-    let done : c .before .before .loop .-i ≡ a .d = omega arith in
-    ap (λ (s : Step). s .drawn) (c .before .before .loop .inv .1)
-    ∙ ap (λ (n : ℕ). stepsFrom (now (a .bytes)) 0 (a .highest) n .drawn) done
-    ∙ draws-are (now (a .bytes)) (a .highest) (a .d)
+loop-again c = (omega arith, more _ _ _ _ (c .before .before .before .before .before .loop .inv .1) _ (c .draw-at2 .ensures))
 
 pub draw-number-spec : {M : Type 1} → statement M
 draw-number-spec =
@@ -69,11 +48,11 @@ draw-number-spec =
     (tie.spec
     Inv-loop
     μ-loop
-    draw-at-requires
-    loop-holds
-    returns
-    draw-at-requires-2
-    add--i
-    loop-less
+    (λ c κs. search needs)
+    (λ c. (omega arith, c .draw-at .ensures ∙ sym (steps-zero (now (c .before .before .args .bytes)) 0 (c .before .before .args .highest))))
+    (λ c. stays _ _ _ _ (c .before .before .before .before .loop .inv .1) _ (c .before .before .before .before .loop .inv .0) (c .if1 .taken))
+    (λ c κs. search needs)
+    (λ c. search needs)
+    (λ c. search needs)
     loop-again
-    returns-2)
+    (λ c. last _ _ _ _ (c .before .before .loop .inv .1) _ (omega arith)))

@@ -9,18 +9,15 @@ use borrow.Author.Needs.{needs}
 use Rattle.reader.proofs.draws.stop_before.Statement.{statement}
 use Rattle.reader.proofs.draws.stop_before.Tie as tie
 
-returns : tie.Need-returns
-returns c = sym (before-start (c .before .args .version) (c .before .args .at) (omega arith))
-
-stop-size-requires : tie.Need-stop-size-requires
-stop-size-requires c κs = search needs
-
-div-result : tie.Need-div-result
-div-result c = omega (arith, size-range (c .before .before .args .version), c .stop-size .ensures)
-
 returns-2 : tie.Need-returns-2
 unfolding stopBefore
 returns-2 c = ap (λ (n : ℕ). (c .before .before .args .at - 8) / n) (c .stop-size .ensures)
 
 pub stop-before-spec : {M : Type 1} → statement M
-stop-before-spec = tie.close (tie.spec returns stop-size-requires div-result returns-2)
+stop-before-spec =
+    tie.close
+    (tie.spec
+    (λ c. sym (before-start (c .before .args .version) (c .before .args .at) (omega arith)))
+    (λ c κs. search needs)
+    (λ c. omega (arith, size-range (c .before .before .args .version), c .stop-size .ensures))
+    returns-2)

@@ -4,7 +4,7 @@ use Prim.Native.Nat.{ℕ}
 use lib.ListN.{take, drop}
 use mathlib.Core.List.{List}
 use denote.Ref.{now}
-use Rattle.records.specs.Field.{number}
+use Rattle.records.specs.Field.{numberOf}
 use Rattle.records.proofs.FieldLaws.{number-parts}
 use borrow.Author.Needs.{needs}
 use Rattle.records.proofs.field.field64.Statement.{statement}
@@ -33,10 +33,10 @@ returns c =
     let s = now (c .before .before .before .before .before .args .s) in
     let at = c .before .before .before .before .before .args .at in
     let from : now (c .before .before .before .after .result) ≡ drop at s = c .before .before .before .after .ensures in
-    let low : c .before .before .first32 .result ≡ number (take 4 (drop at s)) =
-    c .before .before .first32 .ensures .0 ∙ ap (λ (t : List ℕ). number (take 4 t)) from in
-    let high : c .first322 .result ≡ number (take 4 (drop 4 (drop at s))) =
-    c .first322 .ensures .0 ∙ ap (λ (t : List ℕ). number (take 4 t)) (c .before .after2 .ensures ∙ ap (λ (t : List ℕ). drop 4 t) from) in
+    let low : c .before .before .first32 .result ≡ numberOf (take 4 (drop at s)) =
+    c .before .before .first32 .ensures .0 ∙ ap (λ (t : List ℕ). numberOf (take 4 t)) from in
+    let high : c .first322 .result ≡ numberOf (take 4 (drop 4 (drop at s))) =
+    c .first322 .ensures .0 ∙ ap (λ (t : List ℕ). numberOf (take 4 t)) (c .before .after2 .ensures ∙ ap (λ (t : List ℕ). drop 4 t) from) in
     cc (number-parts 4 4 (drop at s))
 
 pub field64-spec : {M : Type 1} → statement M

@@ -6,7 +6,7 @@ use lib.ListN.{take, drop}
 use mathlib.Core.List.{List}
 use Rattle.records.proofs.FieldLaws.{number-parts}
 use denote.Ref.{now}
-use Rattle.records.specs.Field.{number}
+use Rattle.records.specs.Field.{numberOf}
 use borrow.Author.Needs.{needs}
 use Rattle.records.proofs.field.first32.Statement.{statement}
 use Rattle.records.proofs.field.first32.Tie as tie
@@ -29,9 +29,9 @@ add-result c = search needs
 returns : tie.Need-returns
 returns c =
     let s = now (c .before .before .before .before .args .s) in
-    let low : c .before .before .first16 .result ≡ number (take 2 s) = c .before .before .first16 .ensures .0 in
-    let high : c .first162 .result ≡ number (take 2 (drop 2 s)) =
-    c .first162 .ensures .0 ∙ ap (λ (t : List ℕ). number (take 2 t)) (c .before .after .ensures) in
+    let low : c .before .before .first16 .result ≡ numberOf (take 2 s) = c .before .before .first16 .ensures .0 in
+    let high : c .first162 .result ≡ numberOf (take 2 (drop 2 s)) =
+    c .first162 .ensures .0 ∙ ap (λ (t : List ℕ). numberOf (take 2 t)) (c .before .after .ensures) in
     (cc (number-parts 2 2 s), omega arith)
 
 pub first32-spec : {M : Type 1} → statement M

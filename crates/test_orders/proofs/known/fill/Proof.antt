@@ -1,16 +1,16 @@
--- `order_examples::known::fill` is safe and ends. The invariant: the index is within its bound, and the length is kept.
-use Prim.Native.Nat.{_≤_, _-_}
+-- `test_orders::known::fill` is safe and ends. The invariant: the index is within its bound, and the length is kept.
 use mathlib.Core.Path.{_≡_}
-use borrow.Author.Needs.{needs}
+use Prim.Native.Nat.{_≤_, _-_}
 use lib.ListN.{length}
-use Rattle.order_examples.proofs.known.fill.Statement.{statement}
-use Rattle.order_examples.proofs.known.fill.Tie as tie
+use borrow.Author.Needs.{needs}
+use Rattle.test_orders.proofs.known.fill.Statement.{statement}
+use Rattle.test_orders.proofs.known.fill.Tie as tie
 
 abbrev Inv-loop : tie.InvT-loop
-Inv-loop table₀ i₀ i-end table i = (i ≤ i-end) × (length table ≡ length table₀)
+Inv-loop table₀ word i₀ i-end table i = (i ≤ i-end) × (length table ≡ length table₀)
 
 abbrev μ-loop : tie.MeasureT-loop
-μ-loop table₀ i₀ i-end table i = i-end - i
+μ-loop table₀ word i₀ i-end table i = i-end - i
 
 pub fill-spec : {M : Type 1} → statement M
 fill-spec =

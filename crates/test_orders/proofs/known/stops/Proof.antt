@@ -1,10 +1,10 @@
--- `order_examples::known::stops` is safe and ends. The invariant: the index is within its bound, and the length is kept.
-use Prim.Native.Nat.{_≤_, _-_}
+-- `test_orders::known::stops` is safe and ends. The invariant: the index is within its bound, and the length is kept.
 use mathlib.Core.Path.{_≡_}
-use borrow.Author.Needs.{needs}
+use Prim.Native.Nat.{_≤_, _-_}
 use lib.ListN.{length}
-use Rattle.order_examples.proofs.known.stops.Statement.{statement}
-use Rattle.order_examples.proofs.known.stops.Tie as tie
+use borrow.Author.Needs.{needs}
+use Rattle.test_orders.proofs.known.stops.Statement.{statement}
+use Rattle.test_orders.proofs.known.stops.Tie as tie
 
 abbrev Inv-loop : tie.InvT-loop
 Inv-loop count digits order₀ rest₀ i₀ order rest i = (i ≤ count) × (length order ≡ 17)

@@ -1,10 +1,10 @@
--- `order_examples::large::put_forks` is safe and ends. The invariant: the index is within its bound, and the length is kept.
-use Prim.Native.Nat.{_≤_, _-_}
-use borrow.Author.Needs.{needs}
-use lib.ListN.{length}
+-- `test_orders::large::put_forks` is safe and ends. The invariant: the index is within its bound, and the length is kept.
 use mathlib.Core.Path.{_≡_}
-use Rattle.order_examples.proofs.large.put_forks.Statement.{statement}
-use Rattle.order_examples.proofs.large.put_forks.Tie as tie
+use Prim.Native.Nat.{_≤_, _-_}
+use lib.ListN.{length}
+use borrow.Author.Needs.{needs}
+use Rattle.test_orders.proofs.large.put_forks.Statement.{statement}
+use Rattle.test_orders.proofs.large.put_forks.Tie as tie
 
 abbrev Inv-loop : tie.InvT-loop
 Inv-loop bits₀ i₀ i-end bits i = (i ≤ i-end) × (length bits ≡ length bits₀)

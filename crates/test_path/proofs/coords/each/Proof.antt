@@ -1,8 +1,8 @@
--- `path_examples::coords::each` is safe and ends. The invariant: the index is within its bound.
+-- `test_path::coords::each` is safe and ends. The invariant: the index is within its bound.
 use Prim.Native.Nat.{_≤_, _-_}
 use borrow.Author.Needs.{needs}
-use Rattle.path_examples.proofs.coords.each.Statement.{statement}
-use Rattle.path_examples.proofs.coords.each.Tie as tie
+use Rattle.test_path.proofs.coords.each.Statement.{statement}
+use Rattle.test_path.proofs.coords.each.Tie as tie
 
 abbrev Inv-loop : tie.InvT-loop
 Inv-loop coords i₀ i-end i = i ≤ i-end

@@ -1,8 +1,8 @@
--- `path_examples::coords::same` is safe and ends. The invariant: the index is within its bound.
+-- `test_path::coords::same` is safe and ends. The invariant: the index is within its bound.
 use Prim.Native.Nat.{_≤_, _-_}
 use borrow.Author.Needs.{needs}
-use Rattle.path_examples.proofs.coords.same.Statement.{statement}
-use Rattle.path_examples.proofs.coords.same.Tie as tie
+use Rattle.test_path.proofs.coords.same.Statement.{statement}
+use Rattle.test_path.proofs.coords.same.Tie as tie
 
 abbrev Inv-loop : tie.InvT-loop
 Inv-loop coords i₀ i-end i = i ≤ i-end

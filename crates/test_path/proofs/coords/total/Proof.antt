@@ -1,8 +1,8 @@
--- `path_examples::coords::total` is safe and ends. The invariant: the index is within its bound.
+-- `test_path::coords::total` is safe and ends. The invariant: the index is within its bound.
 use Prim.Native.Nat.{_≤_, _-_}
 use borrow.Author.Needs.{needs}
-use Rattle.path_examples.proofs.coords.total.Statement.{statement}
-use Rattle.path_examples.proofs.coords.total.Tie as tie
+use Rattle.test_path.proofs.coords.total.Statement.{statement}
+use Rattle.test_path.proofs.coords.total.Tie as tie
 
 abbrev Inv-loop : tie.InvT-loop
 Inv-loop coords total₀ i₀ i-end total i = i ≤ i-end

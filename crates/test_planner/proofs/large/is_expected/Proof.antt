@@ -1,10 +1,10 @@
--- `planner_examples::large::is_expected` meets its contract.
+-- `test_planner::large::is_expected` meets its contract.
 use mathlib.Core.Path.{_≡_}
 use Prim.Native.Nat.{_-_, _≤_}
 use lib.ListN.{length}
 use borrow.Author.Needs.{needs}
-use Rattle.planner_examples.proofs.large.is_expected.Statement.{statement}
-use Rattle.planner_examples.proofs.large.is_expected.Tie as tie
+use Rattle.test_planner.proofs.large.is_expected.Statement.{statement}
+use Rattle.test_planner.proofs.large.is_expected.Tie as tie
 
 abbrev Inv-loop : tie.InvT-loop
 Inv-loop order planted p₀ p-end p = (p ≤ length order) × (p-end ≡ length order)

@@ -1,10 +1,10 @@
--- `planner_examples::large::plant` meets its contract.
+-- `test_planner::large::plant` meets its contract.
 use mathlib.Core.Path.{_≡_}
 use Prim.Native.Nat.{_-_, _≤_}
 use lib.ListN.{length}
 use borrow.Author.Needs.{needs}
-use Rattle.planner_examples.proofs.large.plant.Statement.{statement}
-use Rattle.planner_examples.proofs.large.plant.Tie as tie
+use Rattle.test_planner.proofs.large.plant.Statement.{statement}
+use Rattle.test_planner.proofs.large.plant.Tie as tie
 
 abbrev Inv-loop : tie.InvT-loop
 Inv-loop table₀ time p₀ table p = (p ≤ 1024) × (length table ≡ length table₀)

@@ -1,8 +1,8 @@
--- `planner_examples::large::stop_in` meets its contract.
+-- `test_planner::large::stop_in` meets its contract.
 use Prim.Native.Nat.{_-_, _≤_}
 use borrow.Author.Needs.{needs}
-use Rattle.planner_examples.proofs.large.stop_in.Statement.{statement}
-use Rattle.planner_examples.proofs.large.stop_in.Tie as tie
+use Rattle.test_planner.proofs.large.stop_in.Statement.{statement}
+use Rattle.test_planner.proofs.large.stop_in.Tie as tie
 
 abbrev Inv-loop : tie.InvT-loop
 Inv-loop p v₀ q₀ depth₀ v q depth = depth ≤ 10

@@ -1,10 +1,10 @@
--- `planner_examples::table::fill` meets its contract.
+-- `test_planner::table::fill` meets its contract.
 use mathlib.Core.Path.{_≡_}
 use Prim.Native.Nat.{_-_, _≤_}
 use lib.ListN.{length}
 use borrow.Author.Needs.{needs}
-use Rattle.planner_examples.proofs.table.fill.Statement.{statement}
-use Rattle.planner_examples.proofs.table.fill.Tie as tie
+use Rattle.test_planner.proofs.table.fill.Statement.{statement}
+use Rattle.test_planner.proofs.table.fill.Tie as tie
 
 abbrev Inv-loop : tie.InvT-loop
 Inv-loop table₀ n rule i₀ i-end table i = (i ≤ length table₀) × (i-end ≡ length table₀) × (length table ≡ length table₀)

@@ -1,8 +1,8 @@
--- `reader_examples::draw::draws` is safe and ends.
+-- `test_reader::draw::draws` is safe and ends.
 use Prim.Native.Nat.{_-_, _≤_}
 use borrow.Author.Needs.{needs}
-use Rattle.reader_examples.proofs.draw.draws.Statement.{statement}
-use Rattle.reader_examples.proofs.draw.draws.Tie as tie
+use Rattle.test_reader.proofs.draw.draws.Statement.{statement}
+use Rattle.test_reader.proofs.draw.draws.Tie as tie
 
 abbrev Inv-loop : tie.InvT-loop
 Inv-loop bytes highest at₀ version₀ -d₀ at version -d = -d ≤ 7

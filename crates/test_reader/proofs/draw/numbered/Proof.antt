@@ -1,8 +1,8 @@
--- `reader_examples::draw::numbered` is safe and ends.
+-- `test_reader::draw::numbered` is safe and ends.
 use Prim.Native.Nat.{_-_, _≤_}
 use borrow.Author.Needs.{needs}
-use Rattle.reader_examples.proofs.draw.numbered.Statement.{statement}
-use Rattle.reader_examples.proofs.draw.numbered.Tie as tie
+use Rattle.test_reader.proofs.draw.numbered.Statement.{statement}
+use Rattle.test_reader.proofs.draw.numbered.Tie as tie
 
 abbrev Inv-loop : tie.InvT-loop
 Inv-loop bytes highest first end d₀ d = first ≤ d

@@ -1,8 +1,8 @@
--- `reader_examples::draw::stops` is safe and ends.
+-- `test_reader::draw::stops` is safe and ends.
 use Prim.Native.Nat.{_-_, _≤_}
 use borrow.Author.Needs.{needs}
-use Rattle.reader_examples.proofs.draw.stops.Statement.{statement}
-use Rattle.reader_examples.proofs.draw.stops.Tie as tie
+use Rattle.test_reader.proofs.draw.stops.Statement.{statement}
+use Rattle.test_reader.proofs.draw.stops.Tie as tie
 
 abbrev Inv-loop : tie.InvT-loop
 Inv-loop count coords speeds blends i₀ i = i ≤ 4

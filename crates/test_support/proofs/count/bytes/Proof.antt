@@ -1,31 +1,15 @@
--- `show::count::bytes` meets its contract. The invariant: the count so far, with that of the rest of the list, is that of the list.
-use Prim.Native.Nat.{_+_, _≤_, _-_}
-use mathlib.Core.Path.{_≡_}
+-- `test_support::count::bytes` meets its contract, by the laws of a loop that counts.
+use Prim.Native.Nat.{_-_}
 use borrow.Author.Needs.{needs}
-use lib.ListN.{drop}
-use Rattle.show.specs.Count.{countOf}
-use Rattle.show.proofs.Rest.{count-next, count-end}
-use Rattle.show.proofs.count.bytes.Statement.{statement}
-use Rattle.show.proofs.count.bytes.Tie as tie
+use Rattle.test_support.proofs.Loop.{Counting, count-next, count-end}
+use Rattle.test_support.proofs.count.bytes.Statement.{statement}
+use Rattle.test_support.proofs.count.bytes.Tie as tie
 
 abbrev Inv-loop : tie.InvT-loop
-Inv-loop bytes value count₀ i₀ i-end count i = (i ≤ i-end) × ((count ≤ i) × (count + countOf value (drop i bytes) ≡ countOf value bytes))
+Inv-loop list value count₀ i₀ i-end count i = Counting value list i-end count i
 
 abbrev μ-loop : tie.MeasureT-loop
-μ-loop bytes value count₀ i₀ i-end count i = i-end - i
-
-loop-again : tie.Need-loop-again Inv-loop μ-loop
-loop-again c =
-    let test = c .before .before .before .before in (
-      search needs,
-      (
-        search needs,
-        count-next _ _ _ _ _ _ _ _ (test .loop-test .taken) (c .before .before .before .wide8 .ensures) (c .before .wide82 .ensures) (c .one .ensures .0) (test .before .loop .inv .1 .1),
-      ),
-    )
-
-returns : tie.Need-returns Inv-loop μ-loop
-returns c = count-end _ _ _ _ _ (c .loop-test .left) (c .before .loop .inv .1 .1)
+μ-loop list value count₀ i₀ i-end count i = i-end - i
 
 pub bytes-spec : {M : Type 1} → statement M
 bytes-spec =
@@ -34,12 +18,10 @@ bytes-spec =
     Inv-loop
     μ-loop
     (λ c. search needs)
-    (λ c κs. search needs)
     (λ c. search needs)
     (λ c κs. search needs)
-    (λ c κs. search needs)
     (λ c. search needs)
     (λ c. search needs)
     (λ c. search needs)
-    loop-again
-    returns)
+    (λ c. count-next _ _ _ _ _ (c .before .before .loop-test .taken) (c .one .ensures .0) (c .one .ensures .1) (c .before .before .before .loop .inv))
+    (λ c. count-end _ _ _ _ (c .loop-test .left) (c .before .loop .inv)))

@@ -1,17 +1,16 @@
--- `show::count::one` meets its contract, by its test.
+-- `test_support::count::one` meets its contract, by its test.
 use borrow.Author.Needs.{needs}
-use borrow.Author.Tests.{eq-eqb, ne-eqb}
-use Rattle.show.specs.Count.{hit}
-use Rattle.show.proofs.count.one.Statement.{statement}
-use Rattle.show.proofs.count.one.Tie as tie
+use Rattle.test_support.specs.Count.{one}
+use Rattle.test_support.proofs.count.one.Statement.{statement}
+use Rattle.test_support.proofs.count.one.Tie as tie
 
 returns : tie.Need-returns
-unfolding hit
-returns c = (rw (eq-eqb _ _ (c .if1 .taken)), search needs)
+unfolding one
+returns c = (rw (c .if1 .taken), search needs)
 
 returns-2 : tie.Need-returns-2
-unfolding hit
-returns-2 c = (rw (ne-eqb _ _ (c .if1 .left)), search needs)
+unfolding one
+returns-2 c = (rw (c .if1 .left), search needs)
 
 pub one-spec : {M : Type 1} → statement M
 one-spec = tie.close (tie.spec returns returns-2)

@@ -1,8 +1,8 @@
--- `show::part::change` meets its contract, one change after the other.
+-- `test_support::part::change` meets its contract, one change after the other.
 use borrow.Author.Needs.{needs}
-use Rattle.show.specs.Change.{changed}
-use Rattle.show.proofs.part.change.Statement.{statement}
-use Rattle.show.proofs.part.change.Tie as tie
+use Rattle.test_support.specs.Change.{changed}
+use Rattle.test_support.proofs.part.change.Statement.{statement}
+use Rattle.test_support.proofs.part.change.Tie as tie
 
 returns : tie.Need-returns
 unfolding changed

@@ -1,12 +1,12 @@
--- `show::part::copy` meets its contract. The invariant: the length is kept, and what the rest of `source` is still to change comes to the contract.
-use Prim.Native.Nat.{_≤_, _-_}
+-- `test_support::part::copy` meets its contract. The invariant: the length is kept, and what the rest of `source` is still to change comes to the contract.
 use mathlib.Core.Path.{_≡_}
-use borrow.Author.Needs.{needs}
+use Prim.Native.Nat.{_≤_, _-_}
 use lib.ListN.{length, drop}
 use lib.Seq.{sets}
-use Rattle.show.proofs.Rest.{sets-next, sets-end}
-use Rattle.show.proofs.part.copy.Statement.{statement}
-use Rattle.show.proofs.part.copy.Tie as tie
+use borrow.Author.Needs.{needs}
+use Rattle.test_support.proofs.Loop.{sets-next, sets-end}
+use Rattle.test_support.proofs.part.copy.Statement.{statement}
+use Rattle.test_support.proofs.part.copy.Tie as tie
 
 abbrev Inv-loop : tie.InvT-loop
 Inv-loop bytes₀ source i₀ i-end bytes i = (i ≤ i-end) × ((length bytes ≡ length bytes₀) × (sets bytes i (drop i source) ≡ sets bytes₀ 0 source))

@@ -1,21 +1,15 @@
--- `show::part::put` meets its contract: past the end nothing is put.
+-- `test_support::part::put` meets its contract: past the end nothing is put.
 use mathlib.Core.Path.{sym}
 use lib.Seq.{set-out}
 use borrow.Author.Needs.{needs}
-use Rattle.show.proofs.part.put.Statement.{statement}
-use Rattle.show.proofs.part.put.Tie as tie
-
-slice-write-bytes : tie.Need-slice-write-bytes
-slice-write-bytes c = search needs
-
-same-length : tie.Need-same-length
-same-length c = search needs
-
-returns : tie.Need-returns
-returns c = search needs
-
-returns-2 : tie.Need-returns-2
-returns-2 c = sym (set-out _ _ _ (c .if1 .left))
+use Rattle.test_support.proofs.part.put.Statement.{statement}
+use Rattle.test_support.proofs.part.put.Tie as tie
 
 pub put-spec : {M : Type 1} → statement M
-put-spec = tie.close (tie.spec slice-write-bytes same-length returns returns-2)
+put-spec =
+    tie.close
+    (tie.spec
+    (λ c. search needs)
+    (λ c. search needs)
+    (λ c. search needs)
+    (λ c. sym (set-out _ _ _ (c .if1 .left))))

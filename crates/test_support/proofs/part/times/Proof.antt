@@ -1,18 +1,15 @@
--- `show::part::times` meets its contract: the part ends at the smaller of the two.
+-- `test_support::part::times` meets its contract: a list that is not longer is its own first part.
 use mathlib.Core.Path.{sym}
+use native.Mathlib.Nat.{le-of-lt}
+use lib.Seq.{length-take-le, take-all}
 use borrow.Author.Needs.{needs}
-use lib.Seq.{length-take-le}
-use Rattle.show.proofs.part.times.Statement.{statement}
-use Rattle.show.proofs.part.times.Tie as tie
-
-least-requires : tie.Need-least-requires
-least-requires c κs = search needs
-
-slice-aggregate-result : tie.Need-slice-aggregate-result
-slice-aggregate-result c = sym (length-take-le _ _ (c .before .least .ensures .1))
-
-returns : tie.Need-returns
-returns c = cc
+use Rattle.test_support.proofs.part.times.Statement.{statement}
+use Rattle.test_support.proofs.part.times.Tie as tie
 
 pub times-spec : {M : Type 1} → statement M
-times-spec = tie.close (tie.spec least-requires slice-aggregate-result returns)
+times-spec =
+    tie.close
+    (tie.spec
+    (λ c. sym (take-all _ _ (le-of-lt (c .if1 .taken))))
+    (λ c. sym (length-take-le _ _ (c .before .if1 .left)))
+    (λ c. search needs))

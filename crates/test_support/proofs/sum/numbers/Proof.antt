@@ -1,24 +1,16 @@
--- `show::sum::numbers` meets its contract. The invariant: the sum so far, with the rest of the list more, is that of the list.
-use Prim.Native.Nat.{_≤_, _-_}
-use mathlib.Core.Path.{_≡_}
+-- `test_support::sum::numbers` meets its contract, by the laws of a loop over a list.
+use Prim.Native.Nat.{_-_}
 use borrow.Author.Needs.{needs}
-use lib.ListN.{drop}
-use Rattle.show.specs.Sum.{sumFrom}
-use Rattle.show.proofs.Rest.{sum-next, sum-end}
-use Rattle.show.proofs.sum.numbers.Statement.{statement}
-use Rattle.show.proofs.sum.numbers.Tie as tie
+use Rattle.test_support.specs.Sum.{oneMore}
+use Rattle.test_support.proofs.Loop.{Folding, fold-next, sum-end}
+use Rattle.test_support.proofs.sum.numbers.Statement.{statement}
+use Rattle.test_support.proofs.sum.numbers.Tie as tie
 
 abbrev Inv-loop : tie.InvT-loop
-Inv-loop numbers sum₀ i₀ i-end sum i = (i ≤ i-end) × (sumFrom sum (drop i numbers) ≡ sumFrom 0 numbers)
+Inv-loop list sum₀ i₀ i-end sum i = Folding oneMore list i-end sum i
 
 abbrev μ-loop : tie.MeasureT-loop
-μ-loop numbers sum₀ i₀ i-end sum i = i-end - i
-
-loop-again : tie.Need-loop-again Inv-loop μ-loop
-loop-again c = (search needs, sum-next _ _ _ _ _ _ (c .before .before .before .loop-test .taken) (c .before .wide .ensures) (c .more .ensures) (c .before .before .before .before .loop .inv .1))
-
-returns : tie.Need-returns Inv-loop μ-loop
-returns c = sum-end _ _ _ _ (c .loop-test .left) (c .before .loop .inv .1)
+μ-loop list sum₀ i₀ i-end sum i = i-end - i
 
 pub numbers-spec : {M : Type 1} → statement M
 numbers-spec =
@@ -33,5 +25,5 @@ numbers-spec =
     (λ c κs. search needs)
     (λ c. search needs)
     (λ c. search needs)
-    loop-again
-    returns)
+    (λ c. fold-next _ _ _ _ _ _ (c .before .before .before .loop-test .taken) (c .before .wide .ensures) (c .more .ensures) (c .before .before .before .before .loop .inv))
+    (λ c. sum-end _ _ _ (c .loop-test .left) (c .before .loop .inv)))

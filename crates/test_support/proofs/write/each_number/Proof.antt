@@ -1,8 +1,8 @@
--- `show::write::each_number` is safe and ends. The invariant: the index is within its bound.
+-- `test_support::write::each_number` is safe and ends. The invariant: the index is within its bound.
 use Prim.Native.Nat.{_≤_, _-_}
 use borrow.Author.Needs.{needs}
-use Rattle.show.proofs.write.each_number.Statement.{statement}
-use Rattle.show.proofs.write.each_number.Tie as tie
+use Rattle.test_support.proofs.write.each_number.Statement.{statement}
+use Rattle.test_support.proofs.write.each_number.Tie as tie
 
 abbrev Inv-loop : tie.InvT-loop
 Inv-loop numbers i₀ i-end i = i ≤ i-end

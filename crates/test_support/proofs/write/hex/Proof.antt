@@ -1,8 +1,8 @@
--- `show::write::hex` is safe and ends. The invariant: the index is within its bound.
+-- `test_support::write::hex` is safe and ends. The invariant: the index is within its bound.
 use Prim.Native.Nat.{_≤_, _-_}
 use borrow.Author.Needs.{needs}
-use Rattle.show.proofs.write.hex.Statement.{statement}
-use Rattle.show.proofs.write.hex.Tie as tie
+use Rattle.test_support.proofs.write.hex.Statement.{statement}
+use Rattle.test_support.proofs.write.hex.Tie as tie
 
 abbrev Inv-loop : tie.InvT-loop
 Inv-loop before bytes i₀ i-end i = i ≤ i-end

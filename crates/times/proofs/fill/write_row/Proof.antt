@@ -1,63 +1,69 @@
 -- `times::fill::write_row` meets its contract. The invariant: the times up to `to` are written, and the rest is as it was.
 use mathlib.Core.Path.{_≡_, refl}
-use Prim.Native.Nat.{ℕ, _+_, _-_, _≤_}
+use mathlib.Core.Bool.{true}
+use Prim.Native.Nat.{ℕ, _*_, _-_, _≤_, _<_}
 use native.Mathlib.Omega.{arith}
-use lib.ListN.{length, set, length-set}
+use lib.ListN.{length, length-set}
 use denote.Ref.{now}
 use borrow.Author.Needs.{needs}
-use Rattle.times.specs.Lent.{lentTime}
-use Rattle.times.proofs.Written.{written, written-none, written-more}
+use Rattle.stop.specs.declared.Stop.{Stop}
+use Rattle.stop.specs.Stop.{inRange}
+use Rattle.stop.specs.Lent.{LentStops, buffers, heldStops, firstStops, stopAt}
+use Rattle.times.specs.Rows.{written}
+use Rattle.times.specs.Table.{entryOf}
+use Rattle.times.proofs.Table.{source-entry, source-good}
+use Rattle.times.proofs.Written.{written-none, written-next}
 use Rattle.times.proofs.fill.write_row.Statement.{statement}
 use Rattle.times.proofs.fill.write_row.Tie as tie
 
 abbrev Inv-loop : tie.InvT-loop
-Inv-loop n from start coords speeds blends table₀ to₀ table to =
-    (to ≤ n) × (length table ≡ length table₀) × (table ≡ written table₀ start (lentTime coords speeds blends from) to)
+Inv-loop n from coords speeds blends table₀ start a to₀ table to =
+    (to ≤ n)
+    × (length table ≡ length table₀)
+    × (table ≡ written table₀ start (entryOf (firstStops n (buffers coords speeds blends)) from) to)
 
 abbrev μ-loop : tie.MeasureT-loop
-μ-loop n from start coords speeds blends table₀ to₀ table to = n - to
+μ-loop n from coords speeds blends table₀ start a to₀ table to = n - to
 
-loop-holds : tie.Need-loop-holds Inv-loop μ-loop
-loop-holds c =
-    let a = c .before .before .before .args in
-    (search needs, refl, written-none (now (a .table)) (a .start) (lentTime (now (a .coords)) (now (a .speeds)) (now (a .blends)) (a .from)))
+-- ---- landmarks: the function's start from the loop's place, the lent stops, and the row that is written
 
-entry-requires : tie.Need-entry-requires Inv-loop μ-loop
-entry-requires c κs = search needs
+abbrev start : tie.At-loop Inv-loop μ-loop → tie.Start Inv-loop μ-loop
+start c = c .before .before .before .before .before
 
-add-table : tie.Need-add-table Inv-loop μ-loop
-add-table c = search needs
+abbrev lent : tie.Start Inv-loop μ-loop → LentStops
+lent s = heldStops (s .args .coords) (s .args .speeds) (s .args .blends)
 
-mul-table : tie.Need-mul-table Inv-loop μ-loop
-mul-table c = omega arith
+abbrev row : tie.Start Inv-loop μ-loop → ℕ → ℕ
+row s = entryOf (firstStops (s .args .n) (lent s)) (s .args .from)
 
-slice-write-table : tie.Need-slice-write-table Inv-loop μ-loop
-slice-write-table c = search needs
+-- ---- the needs
 
-add-to : tie.Need-add-to Inv-loop μ-loop
-add-to c = search needs
+good-at : (s : tie.Start Inv-loop μ-loop) (i : ℕ) (b : Stop) → i < s .args .n → b ≡ stopAt (lent s) i → inRange b ≡ true
+good-at s i b h e = source-good (s .args .n) (stopAt (lent s)) i b (s .pre .0 .inRange) h e
 
-loop-less : tie.Need-loop-less Inv-loop μ-loop
-loop-less c = search needs
+both-good : tie.Need-time-between-requires Inv-loop μ-loop
+both-good c κs =
+    let l = c .before .before in
+    let s = start l in
+    (good-at s (s .args .from) _ (search needs) (l .before .stop-in .ensures), good-at s (l .loop .to) _ (search needs) (c .stop-in2 .ensures))
+
+-- the entry that is written next
+next : (c : tie.After-time-between Inv-loop μ-loop) → c .time-between .result ≡ row (start (c .before .before .before)) (c .before .before .before .loop .to)
+next c =
+    let l = c .before .before .before in
+    let s = start l in
+    source-entry (s .args .n) (stopAt (lent s)) (s .args .from) (l .loop .to) _ _ _ (search needs) (search needs) (l .before .stop-in .ensures) (c .before .stop-in2 .ensures) (c .time-between .ensures)
 
 loop-again : tie.Need-loop-again Inv-loop μ-loop
 loop-again c =
-    let a = c .before .before .before .before .before .before .args in
-    let l = c .before .before .loop in
-    let f : ℕ → ℕ = lentTime (now (a .coords)) (now (a .speeds)) (now (a .blends)) (a .from) in
-    let v : c .entry .result ≡ f (l .to) = c .entry .ensures in
-    let more : set (written (now (a .table)) (a .start) f (l .to)) (a .start + l .to) (f (l .to)) ≡ written (now (a .table)) (a .start) f (l .to + 1) = written-more (now (a .table)) (a .start) f (l .to) 0 (omega arith) in
-    (search needs, simp length-set (omega arith), rw (v, l .inv .2) more)
-
-same-length : tie.Need-same-length Inv-loop μ-loop
-same-length c = search needs
+    let l = c .before .before .before in
+    let s = start l in
+    (search needs, simp length-set (omega arith), written-next (now (s .args .table)) (s .args .from * s .args .n) (row s) (l .loop .to) _ _ (omega arith) (l .loop .inv .2) (next c))
 
 returns : tie.Need-returns Inv-loop μ-loop
 returns c =
-    let a = c .before .before .before .before .before .args in
-    let l = c .before .loop in
-    let end : l .to ≡ a .n = omega arith in
-    rw end at (l .inv .2)
+    let end : c .before .loop .to ≡ start (c .before) .args .n = omega arith in
+    rw end at (c .before .loop .inv .2)
 
 pub write-row-spec : {M : Type 1} → statement M
 write-row-spec =
@@ -65,13 +71,16 @@ write-row-spec =
     (tie.spec
     Inv-loop
     μ-loop
-    loop-holds
-    entry-requires
-    add-table
-    mul-table
-    slice-write-table
-    add-to
-    loop-less
+    (λ c. search needs)
+    (λ c κs. search needs)
+    (λ c. (search needs, refl, written-none _ _ _))
+    (λ c κs. search needs)
+    both-good
+    (λ c. search needs)
+    (λ c. search needs)
+    (λ c. search needs)
+    (λ c. search needs)
+    (λ c. search needs)
     loop-again
-    same-length
+    (λ c. search needs)
     returns)

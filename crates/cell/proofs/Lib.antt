@@ -1,0 +1,3 @@
+-- Laws of the controller's calls.
+pub mod Results
+pub mod Together

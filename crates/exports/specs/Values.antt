@@ -1,0 +1,67 @@
+-- The values that calls give, as one number each.
+use mathlib.Core.Bool.{cond}
+use Prim.Native.Nat.{ℕ, _+_, _*_}
+use lib.Dec.{ltb, eqb}
+use lib.IntN.{ℤ, pos}
+use Rattle.base.specs.Outcome.{Outcome, gives, refuses}
+use Rattle.stop.specs.declared.Stop.{Stop}
+use Rattle.stop.specs.Stop.{coordinate}
+use Rattle.path.specs.Reading.{Heading}
+use Rattle.path.specs.Draw.{Draw, drawn, ended, drawRefused}
+use Rattle.path_plan.specs.PathPlan.{Planned}
+use Rattle.reader.specs.Draws.{aStop, theEnd}
+use Rattle.signed.specs.Result.{atMost}
+
+-- a call that gives nothing beside the lent buffers: 0
+abbrev pub nothing : Unit {0} → ℕ
+nothing u = 0
+
+-- a count of bytes, or a total
+abbrev pub itself : ℕ → ℕ
+itself n = n
+
+-- ---- a version and k in one number, and a total above them
+
+-- k has 16 bits, and the version 4
+abbrev pub versionUnit : ℕ
+versionUnit = 65536
+
+abbrev pub totalUnit : ℕ
+totalUnit = 1048576
+
+-- the largest total that stands beside them: 42 bits
+abbrev pub mostPacked : ℕ
+mostPacked = 4398046511103
+
+unfoldable pub packed : (total version k : ℕ) → ℕ
+packed total version k = atMost mostPacked total * totalUnit + version * versionUnit + k
+
+-- of a path that was read
+abbrev pub heading : Heading → ℕ
+heading h = packed 0 (h .version) (h .k)
+
+-- and of one that was planned
+abbrev pub planned : Planned → ℕ
+planned p = packed (p .total) (p .version) (p .k)
+
+-- ---- draws
+
+-- the verdict of a draw: 0 a stop, 1 the end, or the refusal
+unfoldable pub verdict : Draw → Outcome ℕ
+verdict (drawn s) = gives aStop
+verdict ended = gives theEnd
+verdict (drawRefused n) = refuses n
+
+-- a field of a stop: 0 to 2 are x, y, z, 3 is the speed, 4 the blend, and any other is 0
+abbrev pub speedField : ℕ
+speedField = 3
+
+abbrev pub blendField : ℕ
+blendField = 4
+
+unfoldable pub fieldOf : (field : ℕ) → Stop → ℤ
+fieldOf field s =
+    cond (ltb field speedField) (coordinate s field)
+    (cond (eqb field speedField) (pos (s .speed))
+    (cond (eqb field blendField) (pos (s .blend))
+    (pos 0)))

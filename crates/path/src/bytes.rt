@@ -1,0 +1,61 @@
+// The fields of a stop's record that lies within the bytes, read with no test for each byte. These functions have a `requires`: the module
+// is private.
+use stop::Stop;
+ghost use mathlib.Core.Path.{_≡_};
+ghost use Prim.Native.Nat.{_+_, _≤_};
+ghost use lib.ListN.{length, take, drop};
+ghost use Rattle.base.specs.Buffer.{atEntry};
+ghost use Rattle.records.specs.Field.{numberOf, signed};
+ghost use Rattle.path.specs.Path.{stopOf, stopSize};
+ghost use Rattle.path.specs.Local.{blendIn};
+
+// The number of the two bytes from `at` on.
+fn word16(bytes: &[u8], at: usize) -> u16
+    requires { ⌜ at + 2 ≤ length (now bytes) ⌝ }
+    ensures { λ r. ⌜ r ≡ numberOf (take 2 (drop at (atEntry bytes))) ⌝ }
+{
+    (bytes[at] as u16) + 256 * (bytes[at + 1] as u16)
+}
+
+// The number of the four bytes from `at` on.
+fn word32(bytes: &[u8], at: usize) -> u32
+    requires { ⌜ at + 4 ≤ length (now bytes) ⌝ }
+    ensures { λ r. ⌜ r ≡ numberOf (take 4 (drop at (atEntry bytes))) ⌝ }
+{
+    (word16(bytes, at) as u32) + 65536 * (word16(bytes, at + 2) as u32)
+}
+
+// The coordinate in the four bytes from `at` on.
+fn coordinate_in(bytes: &[u8], at: usize) -> i32
+    requires { ⌜ at + 4 ≤ length (now bytes) ⌝ }
+    ensures { λ r. ⌜ r ≡ signed (numberOf (take 4 (drop at (atEntry bytes)))) ⌝ }
+{
+    records::to_signed(word32(bytes, at))
+}
+
+// The blend of a stop whose content begins at `at`; version 4 has none.
+fn blend_in(bytes: &[u8], version: u16, at: usize) -> u16
+    requires { ⌜ at + stopSize version ≤ 4 + length (now bytes) ⌝ }
+    ensures { λ r. ⌜ r ≡ blendIn version (drop at (atEntry bytes)) ⌝ }
+{
+    if version < 5 {
+        return 0;
+    }
+    word16(bytes, at + 14)
+}
+
+// The stop whose content begins at `at`.
+pub fn stop_in(bytes: &[u8], version: u16, at: usize) -> Stop
+    requires { ⌜ at + stopSize version ≤ 4 + length (now bytes) ⌝ }
+    ensures { λ r. ⌜ r ≡ stopOf version (drop at (atEntry bytes)) ⌝ }
+{
+    Stop {
+        at: [
+            coordinate_in(bytes, at),
+            coordinate_in(bytes, at + 4),
+            coordinate_in(bytes, at + 8),
+        ],
+        speed: word16(bytes, at + 12),
+        blend: blend_in(bytes, version, at),
+    }
+}

@@ -1,0 +1,3 @@
+-- Laws of answers as signed numbers.
+pub mod AtMost
+pub mod Result

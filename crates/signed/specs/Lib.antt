@@ -1,0 +1,2 @@
+-- Answers as signed numbers.
+pub mod Result

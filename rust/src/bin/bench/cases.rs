@@ -1,0 +1,155 @@
+//! The calls that are measured beside plain Rust. A further call is one more entry of `CASES`.
+
+use crate::clock::race;
+use evidence::{
+    calls::{Call, Heap, Lent},
+    ffi,
+    plain::{Checked, Columns, Pairs, Slices, Step},
+    plain_jobs,
+    plain_path::{self, Chunks, Indices, Way},
+    plain_times,
+    random::Random,
+    world::World,
+};
+use std::hint::black_box;
+
+/// One run of a call for a path of 2^k stops: a value, or the refusal's number.
+type Run = fn(u16, &mut Lent<Heap>) -> Result<u64, u16>;
+
+/// A call that is measured.
+struct Case {
+    /// What the report calls it.
+    name: &'static str,
+    /// The call for 2^k stops as `World` knows it, which lends what it takes.
+    call: fn(u16) -> Call,
+    /// The k and version of each path.
+    paths: &'static [(u16, u16)],
+    /// The proved function.
+    proved: Run,
+    /// Plain Rust that does the same, in each way that it is written, with what the report calls the way.
+    plain: &'static [(&'static str, Run)],
+}
+
+const CASES: &[Case] = &[
+    Case {
+        name: "read_path",
+        call: |_| Call::ReadPath { highest: 5 },
+        paths: &[(6, 4), (6, 5), (10, 4), (10, 5)],
+        proved: |_, l| ffi::read_path(&l.bytes, 5, &mut l.coords, &mut l.speeds, &mut l.blends).map(|(_, k)| k.into()),
+        plain: &[("indices", plain_read::<Indices>), ("chunks", plain_read::<Chunks>)],
+    },
+    Case {
+        name: "make_table",
+        call: |k| Call::MakeTable { k },
+        paths: &[(6, 5), (8, 5), (10, 5)],
+        proved: |k, l| ffi::make_table(k, &l.coords, &l.speeds, &l.blends, &mut l.table).map(|()| 0),
+        plain: &[
+            ("indices", |k, l| plain_times::make_table(k, &l.coords, &l.speeds, &l.blends, &mut l.table).map(|()| 0)),
+            ("slices", |k, l| plain_times::make_table_by_slices(k, &l.coords, &l.speeds, &l.blends, &mut l.table).map(|()| 0)),
+        ],
+    },
+    Case {
+        name: "plan_path",
+        call: |_| Call::PlanPath { highest: 5 },
+        paths: &[(6, 5), (8, 5), (10, 5)],
+        proved: plan_path,
+        plain: &[
+            ("paper's order", plain_plan_path::<Columns<Checked>>),
+            ("rows by slices", plain_plan_path::<Slices>),
+            ("two stops at a time", plain_plan_path::<Pairs<Checked>>),
+        ],
+    },
+    Case {
+        name: "cell_plan",
+        call: |_| Call::CellPlan { highest: 5 },
+        paths: &[(6, 5)],
+        proved: |_, l| value(ffi::cell_plan(&l.bytes, 5, &mut l.out)),
+        plain: &[
+            ("paper's order", plain_cell_plan::<Columns<Checked>>),
+            ("rows by slices", plain_cell_plan::<Slices>),
+            ("two stops at a time", plain_cell_plan::<Pairs<Checked>>),
+        ],
+    },
+    Case {
+        name: "cell_check",
+        call: |_| Call::CellCheck { highest: 5 },
+        paths: &[(6, 5)],
+        proved: |_, l| value(ffi::cell_check(&l.bytes, 5, &l.file)),
+        plain: &[
+            ("indices", |_, l| value(plain_jobs::cell_check::<Indices>(&l.bytes, 5, &l.file))),
+            ("chunks", |_, l| value(plain_jobs::cell_check::<Chunks>(&l.bytes, 5, &l.file))),
+        ],
+    },
+    Case {
+        name: "cell_rewrite",
+        call: |_| Call::CellRewrite { highest: 5, version: 5 },
+        paths: &[(6, 5)],
+        proved: |_, l| value(ffi::cell_rewrite(&l.bytes, 5, 5, &mut l.out)),
+        plain: &[
+            ("indices", |_, l| value(plain_jobs::cell_rewrite::<Indices>(&l.bytes, 5, 5, &mut l.out))),
+            ("chunks", |_, l| value(plain_jobs::cell_rewrite::<Chunks>(&l.bytes, 5, 5, &mut l.out))),
+        ],
+    },
+];
+
+/// The result of a controller's call.
+fn value(result: i64) -> Result<u64, u16> {
+    u64::try_from(result).map_err(|_| (-result) as u16)
+}
+
+fn plain_read<W: Way>(_: u16, l: &mut Lent<Heap>) -> Result<u64, u16> {
+    plain_path::read::<W>(&l.bytes, 5, &mut l.coords, &mut l.speeds, &mut l.blends).map(|(_, k)| k.into())
+}
+
+#[rustfmt::skip]
+fn plan_path(_: u16, l: &mut Lent<Heap>) -> Result<u64, u16> {
+    ffi::plan_path(
+        &l.bytes, 5, &mut l.table, &mut l.order, &mut l.totals, &mut l.pivots,
+    )
+    .map(|(_, _, total)| total)
+}
+
+fn plain_plan_path<S: Step>(_: u16, l: &mut Lent<Heap>) -> Result<u64, u16> {
+    plain_jobs::plan_path::<S>(&l.bytes, 5, &mut l.table, &mut l.order, &mut l.totals, &mut l.pivots).map(|(_, _, total)| total)
+}
+
+fn plain_cell_plan<S: Step>(_: u16, l: &mut Lent<Heap>) -> Result<u64, u16> {
+    value(plain_jobs::cell_plan::<S>(&l.bytes, 5, &mut l.out))
+}
+
+/// What a call took for one path, in microseconds.
+pub struct Measured {
+    pub name: &'static str,
+    pub k: u16,
+    pub version: u16,
+    /// The path's length.
+    pub bytes: usize,
+    pub rounds: usize,
+    pub proved: f64,
+    pub plain: Vec<(&'static str, f64)>,
+}
+
+impl Measured {
+    /// The quickest plain Rust.
+    pub fn best(&self) -> f64 {
+        self.plain.iter().map(|plain| plain.1).fold(f64::INFINITY, f64::min)
+    }
+}
+
+impl Case {
+    /// The case for one path. Every contender has the same buffers, and must give the same value.
+    fn measure(&self, random: &mut Random, k: u16, version: u16) -> Measured {
+        let mut lent = World::wide(random, k, version).lent(random, (self.call)(k));
+        let contenders: Vec<Run> = [self.proved].into_iter().chain(self.plain.iter().map(|plain| plain.1)).collect();
+        let due = (self.proved)(k, &mut lent).expect("a good path");
+        let (times, rounds) = race(contenders.len(), |i| assert_eq!(black_box(contenders[i])(k, black_box(&mut lent)), Ok(due)));
+        let plain = self.plain.iter().map(|plain| plain.0).zip(times[1..].iter().copied()).collect();
+        Measured { name: self.name, k, version, bytes: lent.bytes.len(), rounds, proved: times[0], plain }
+    }
+}
+
+/// Every case for each of its paths.
+pub fn measure(random: &mut Random) -> Vec<Measured> {
+    let each = |case: &Case| -> Vec<Measured> { case.paths.iter().map(|&(k, version)| case.measure(random, k, version)).collect() };
+    CASES.iter().flat_map(each).collect()
+}
