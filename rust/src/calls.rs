@@ -43,6 +43,7 @@ pub struct Lent<R: Room> {
     pub totals: R::Of<u64>,
     pub pivots: R::Of<u16>,
     pub bits: R::Of<u8>,
+    pub list: R::Of<u16>,
     pub out: R::Of<u8>,
 }
 
@@ -60,6 +61,7 @@ impl<R: Room> Lent<R> {
             totals: room.hold(&self.totals),
             pivots: room.hold(&self.pivots),
             bits: room.hold(&self.bits),
+            list: room.hold(&self.list),
             out: room.hold(&self.out),
         }
     }
@@ -77,6 +79,7 @@ impl<R: Room> Lent<R> {
             ("totals", *self.totals == *other.totals),
             ("pivots", *self.pivots == *other.pivots),
             ("bits", *self.bits == *other.bits),
+            ("list", *self.list == *other.list),
             ("out", *self.out == *other.out),
         ];
         same.into_iter().find(|(_, same)| !same).map(|(name, _)| name)
@@ -93,6 +96,7 @@ pub enum Call {
     PlanPath { highest: u16 },
     ForkBits { k: u16 },
     OrderOfBits { k: u16 },
+    Exchange { k: u16 },
     OrderTotal { k: u16 },
     WriteOrderFile { k: u16 },
     ReadOrderFile { k: u16 },
@@ -142,6 +146,7 @@ macro_rules! made_to {
             }
             Call::ForkBits { k } => $module::fork_bits(k, &$l.order, &mut $l.bits).map(|()| vec![]),
             Call::OrderOfBits { k } => $module::order_of_bits(k, &$l.bits, &mut $l.order).map(|()| vec![]),
+            Call::Exchange { k } => $module::exchange(k, &$l.order, &$l.bits, &mut $l.list).map(|()| vec![]),
             Call::OrderTotal { k } => $module::order_total(k, &$l.order, &$l.table).map(one),
             Call::WriteOrderFile { k } => $module::write_order_file(k, &$l.order, &$l.table, &mut $l.out).map(one),
             Call::ReadOrderFile { k } => $module::read_order_file(k, &$l.table, &$l.file, &mut $l.order, &mut $l.bits).map(one),

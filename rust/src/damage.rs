@@ -101,7 +101,7 @@ fn another_length<T: Copy + Default>(random: &mut Random, needed: usize, numbers
 /// One lent buffer of another length.
 fn spoil_length(random: &mut Random, lent: &mut Lent<Heap>) {
     let n = lent.table.len().isqrt();
-    match random.below(8) {
+    match random.below(9) {
         0 => another_length(random, 3 * n, &mut lent.coords),
         1 => another_length(random, n, &mut lent.speeds),
         2 => another_length(random, n, &mut lent.blends),
@@ -109,6 +109,7 @@ fn spoil_length(random: &mut Random, lent: &mut Lent<Heap>) {
         4 => another_length(random, n, &mut lent.order),
         5 => another_length(random, 2 * n, &mut lent.totals),
         6 => another_length(random, 2 * n, &mut lent.pivots),
+        7 => another_length(random, n, &mut lent.list),
         _ => another_length(random, n.div_ceil(8), &mut lent.bits),
     }
 }
@@ -128,7 +129,7 @@ fn spoil_number(random: &mut Random, call: &mut Call) {
         Call::CellRewrite { highest, version } => *(if random.below(2) == 0 { highest } else { version }) = other,
         Call::WritePath { version, k } => *(if random.below(2) == 0 { version } else { k }) = other,
         Call::MakeTable { k } | Call::Plan { k } | Call::ForkBits { k } | Call::OrderOfBits { k } => *k = other,
-        Call::OrderTotal { k } | Call::WriteOrderFile { k } | Call::ReadOrderFile { k } => *k = other,
+        Call::Exchange { k } | Call::OrderTotal { k } | Call::WriteOrderFile { k } | Call::ReadOrderFile { k } => *k = other,
     }
 }
 

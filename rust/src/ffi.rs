@@ -33,6 +33,9 @@ mod declared {
         ) -> i64;
         pub fn ffi_fork_bits(k: u16, order: *const u16, order_len: usize, bits: *mut u8, bits_len: usize) -> i64;
         pub fn ffi_order_of_bits(k: u16, bits: *const u8, bits_len: usize, order: *mut u16, order_len: usize) -> i64;
+        pub fn ffi_exchange(
+            k: u16, order: *const u16, order_len: usize, bits: *const u8, bits_len: usize, out: *mut u16, out_len: usize,
+        ) -> i64;
         pub fn ffi_order_total(k: u16, order: *const u16, order_len: usize, table: *const u32, table_len: usize) -> i64;
         pub fn ffi_write_order_file(
             k: u16, order: *const u16, order_len: usize, table: *const u32, table_len: usize, out: *mut u8, out_len: usize,
@@ -127,6 +130,12 @@ pub fn fork_bits(k: u16, order: &[u16], bits: &mut [u8]) -> Result<(), u16> {
 /// `orders::order_of_bits`.
 pub fn order_of_bits(k: u16, bits: &[u8], order: &mut [u16]) -> Result<(), u16> {
     done(unsafe { declared::ffi_order_of_bits(k, bits.as_ptr(), bits.len(), order.as_mut_ptr(), order.len()) })
+}
+
+/// `orders::exchange`.
+pub fn exchange(k: u16, order: &[u16], bits: &[u8], out: &mut [u16]) -> Result<(), u16> {
+    let (out, out_len) = (out.as_mut_ptr(), out.len());
+    done(unsafe { declared::ffi_exchange(k, order.as_ptr(), order.len(), bits.as_ptr(), bits.len(), out, out_len) })
 }
 
 /// `orders::order_total`: the total.

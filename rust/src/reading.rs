@@ -1,4 +1,4 @@
-//! An independent reading of document 01, written from the document: plain, slow, and without a look at the proved source.
+//! An independent reading of documents 01 and 02, written from the documents: plain, slow, and without a look at the proved source.
 //!
 //! Every `Err` is a refusal's number ('Turned down'). Each call makes its whole result first, and only then writes to the lent buffers.
 
@@ -16,7 +16,7 @@ mod tree;
 pub use cell::{cell_check, cell_plan, cell_rewrite};
 pub use draws::draw_number;
 pub use files::{read_order_file, write_order_file};
-pub use orders::{fork_bits, order_of_bits, order_total};
+pub use orders::{exchange, fork_bits, order_of_bits, order_total};
 pub use paths::{read_path, write_path};
 pub use plans::{plan, plan_path};
 pub use refusals::*;

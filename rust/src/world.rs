@@ -52,6 +52,7 @@ pub fn planner_lent(random: &mut Random, table: &[u32], order: usize, totals: us
         totals: (0..totals).map(|_| random.next()).collect(),
         pivots: (0..pivots).map(|_| random.next() as u16).collect(),
         bits: vec![],
+        list: vec![],
         out: vec![],
     }
 }
@@ -108,7 +109,7 @@ impl World {
     }
 
     /// Each call once, with numbers that suit this world.
-    pub fn calls(&self, random: &mut Random) -> [Call; 14] {
+    pub fn calls(&self, random: &mut Random) -> [Call; 15] {
         let k = self.k;
         let highest = if self.version == 5 || random.below(2) == 0 { 5 } else { 4 };
         let version = 4 + random.below(2) as u16;
@@ -121,6 +122,7 @@ impl World {
             Call::PlanPath { highest },
             Call::ForkBits { k },
             Call::OrderOfBits { k },
+            Call::Exchange { k },
             Call::OrderTotal { k },
             Call::WriteOrderFile { k },
             Call::ReadOrderFile { k },
@@ -150,6 +152,7 @@ impl World {
             totals: pattern(random, 2 * n, |x| x),
             pivots: pattern(random, 2 * n, |x| x as u16),
             bits: pattern(random, n.div_ceil(8), |x| x as u8),
+            list: pattern(random, n, |x| x as u16),
             out: pattern(random, out, |x| x as u8),
         };
         if matches!(call, Call::WritePath { .. } | Call::MakeTable { .. }) {
@@ -160,11 +163,16 @@ impl World {
         if matches!(call, Call::Plan { .. } | Call::OrderTotal { .. } | Call::WriteOrderFile { .. } | Call::ReadOrderFile { .. }) {
             lent.table.copy_from_slice(&self.table);
         }
-        if matches!(call, Call::ForkBits { .. } | Call::OrderTotal { .. } | Call::WriteOrderFile { .. }) {
+        if matches!(call, Call::ForkBits { .. } | Call::Exchange { .. } | Call::OrderTotal { .. } | Call::WriteOrderFile { .. }) {
             lent.order[..n].copy_from_slice(&self.order);
         }
         if matches!(call, Call::OrderOfBits { .. }) {
             lent.bits[..n.div_ceil(8)].copy_from_slice(&self.bits);
+        }
+        if matches!(call, Call::Exchange { .. }) {
+            // another set than the order's own
+            let other = order_of(self.k.into(), &any_set(random, self.k.into()));
+            reading::fork_bits(self.k, &other, &mut lent.bits).expect("an allowed order");
         }
         lent
     }

@@ -55,6 +55,7 @@ fn every_call_with_faults() {
         assert_eq!(seen.numbers(call), [0, 5, 8, 9, 10]);
     }
     assert_eq!(seen.numbers("OrderOfBits"), [0, 5, 8, 12]);
+    assert_eq!(seen.numbers("Exchange"), [0, 5, 8, 9, 10, 12]);
     assert_eq!(seen.numbers("ReadOrderFile"), [0, 1, 2, 3, 5, 7, 8, 9, 10, 11, 12]);
 }
 
@@ -183,6 +184,7 @@ fn with_number(call: Call, number: u16) -> Vec<Call> {
         Call::PlanPath { .. } => vec![Call::PlanPath { highest: number }],
         Call::ForkBits { .. } => vec![Call::ForkBits { k: number }],
         Call::OrderOfBits { .. } => vec![Call::OrderOfBits { k: number }],
+        Call::Exchange { .. } => vec![Call::Exchange { k: number }],
         Call::OrderTotal { .. } => vec![Call::OrderTotal { k: number }],
         Call::WriteOrderFile { .. } => vec![Call::WriteOrderFile { k: number }],
         Call::ReadOrderFile { .. } => vec![Call::ReadOrderFile { k: number }],
@@ -237,6 +239,7 @@ fn every_length() {
             shortened(|lent, length| cut(&mut lent.totals, length));
             shortened(|lent, length| cut(&mut lent.pivots, length));
             shortened(|lent, length| cut(&mut lent.bits, length));
+            shortened(|lent, length| cut(&mut lent.list, length));
             shortened(|lent, length| cut(&mut lent.out, length));
             if k <= 3 {
                 shortened(|lent, length| cut(&mut lent.table, length));

@@ -29,6 +29,7 @@ ghost use Rattle.path_plan.specs.PathPlan.{PlansPath, said as pathPlanned};
 ghost use Rattle.orders.specs.ForkBits.{MakesBits, said as bitsMade};
 ghost use Rattle.orders.specs.OrderOfBits.{MakesOrder, said as orderMade};
 ghost use Rattle.orders.specs.OrderTotal.{orderTotal};
+ghost use Rattle.orders.specs.Exchange.{ExchangesForks};
 ghost use Rattle.order_file.specs.Write.{WritesFile, said as fileWritten};
 ghost use Rattle.order_file.specs.Read.{ReadsFile, said as fileRead};
 ghost use Rattle.reader.specs.Draws.{drawAnswer};
@@ -146,6 +147,18 @@ pub extern "C" fn ffi_order_of_bits(k: u16, bits: &[u8], order: &mut [u16]) -> i
     ensures { λ r. ⌜ Exported (MakesOrder k bits order) (λ a. signed nothing (orderMade a)) r ⌝ }
 {
     let answer = orders::order_of_bits(k, bits, order);
+    match answer {
+        OrderMade::Made => 0,
+        OrderMade::Refused(number) => refusal(number),
+    }
+}
+
+// `orders::exchange`: 0.
+#[no_mangle]
+pub extern "C" fn ffi_exchange(k: u16, order: &[u16], bits: &[u8], out: &mut [u16]) -> i64
+    ensures { λ r. ⌜ Exported (ExchangesForks k order bits out) (λ a. signed nothing (orderMade a)) r ⌝ }
+{
+    let answer = orders::exchange(k, order, bits, out);
     match answer {
         OrderMade::Made => 0,
         OrderMade::Refused(number) => refusal(number),

@@ -30,7 +30,7 @@ use Rattle.orders.proofs.Lent.{lent-contents, lent-judged, lent-gives, 
 use Rattle.orders.proofs.Size.{byteCount-is}
 
 -- an answer without a value that says 'done' tells that nothing was refused
-done-number : {A : Type 0} (o : Outcome A) → gives tt ≡ done o → number o ≡ 0
+pub done-number : {A : Type 0} (o : Outcome A) → gives tt ≡ done o → number o ≡ 0
 done-number o e = sym (number-giving (λ a. tt) o) ∙ sym (ap number e)
 
 -- ---- fork bits of an order
@@ -113,6 +113,12 @@ module _ (k : ℕ) (order before : List ℕ) where
 
 -- ---- the order of fork bits
 
+-- an answer that says 'done' is `Made`
+pub only-made : (r : OrderMade) → order.said r ≡ gives tt → r ≡ order-answer.Made
+unfolding order.said
+only-made order-answer.Made e = refl
+only-made (order-answer.Refused n) e = let z : _≡_ {A = ℕ} 0 1 = cc in absurd (omega arith)
+
 module _ (k : ℕ) (string : List ℕ) (room : ℕ) where
   -- which test decides
   pub order-k : maxK < k → order.orderOfBits k string room ≡ refuses wrongK
@@ -178,14 +184,9 @@ module _ (k : ℕ) (string before : List ℕ) where
 
     pub order-when : (r : OrderMade) → JudgedForks k string (length before) → order.OrderIsMade k string before afterwards r
         → (r ≡ order-answer.Made) × (afterwards ≡ over (orderOf k (forksIn k string)) before)
-    unfolding order.said
     order-when r j p =
         let o = order-given k string (length before) j in
-        (only r (p .said ∙ rw o), p .left ∙ rw o)
-      where
-        only : (r : OrderMade) → order.said r ≡ gives tt → r ≡ order-answer.Made
-        only order-answer.Made e = refl
-        only (order-answer.Refused n) e = let z : _≡_ {A = ℕ} 0 1 = cc in absurd (omega arith)
+        (only-made r (p .said ∙ rw o), p .left ∙ rw o)
 
 -- ---- the total of an order
 

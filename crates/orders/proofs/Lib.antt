@@ -10,3 +10,5 @@ pub mod Lent
 pub mod Calls
 pub mod Way
 pub mod RoundTrip
+pub mod Inverted
+pub mod Exchanged

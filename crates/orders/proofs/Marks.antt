@@ -29,7 +29,7 @@ use Rattle.orders.proofs.Bits.{bit-lt, bit-none, bit-past, areBytes-all
 -- ---- every fork is the lowest above two neighbours
 
 -- to leave out the lowest d bits of a place is to go up d depths
-node-shr : (f : ℕ → ℕ) (e d p : ℕ) → node f (e + d) p / 2 ^ d ≡ node f e (p / 2 ^ d)
+pub node-shr : (f : ℕ → ℕ) (e d p : ℕ) → node f (e + d) p / 2 ^ d ≡ node f e (p / 2 ^ d)
 node-shr f e zero p = rw (add-zero e, div-one p, div-one (node f e p))
 node-shr f e (suc d) p =
     let h : e + suc d ≡ suc e + d = omega arith in

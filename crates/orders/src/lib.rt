@@ -1,7 +1,8 @@
-// Orders and fork bits: an order is judged, turned into fork bits and back, and its total is summed.
+// Orders and fork bits: an order is judged, turned into fork bits and back, forks are exchanged in it, and its total is summed.
 //
 // No public function has a `requires`. A refusal gives its number and touches no lent buffer; after success an output holds the
 // result first and is untouched beyond.
+mod exchanges;
 mod forks;
 mod judge;
 mod places;
@@ -14,6 +15,7 @@ ghost use mathlib.Core.Path.{_≡_};
 ghost use Rattle.base.specs.Buffer.{atEntry};
 ghost use Rattle.base.specs.Size.{stopCount};
 ghost use Rattle.orders.specs.Bits.{byteCount};
+ghost use Rattle.orders.specs.Exchange.{ExchangesForks};
 ghost use Rattle.orders.specs.ForkBits.{MakesBits};
 ghost use Rattle.orders.specs.OrderOfBits.{MakesOrder};
 ghost use Rattle.orders.specs.OrderTotal.{orderTotal, said};
@@ -65,6 +67,19 @@ pub fn order_of_bits(k: u16, bits: &[u8], order: &mut [u16]) -> OrderMade
         return OrderMade::Refused(refused);
     }
     places::write_order(k, bits, order);
+    OrderMade::Made
+}
+
+// An order with the states of a set of forks inverted, n stops; bit v of the string is fork v. Refused are k above 10 (5), an order, a
+// string or a buffer too short (8), a stop number n or more (9), an order that is not allowed (10) and a bit outside 1 to n - 1 (12).
+pub fn exchange(k: u16, order: &[u16], bits: &[u8], out: &mut [u16]) -> OrderMade
+    ensures { λ r. ⌜ ExchangesForks k order bits out r ⌝ }
+{
+    let refused = exchanges::judge_exchange(k, order, bits, out.len());
+    if refused != 0 {
+        return OrderMade::Refused(refused);
+    }
+    exchanges::write_exchanged(k, order, bits, out);
     OrderMade::Made
 }
 

@@ -1,4 +1,4 @@
-//! Document 01, 'Tree, order, total' and 'Turned down': orders to fork bits and back, and an order's total.
+//! Document 01, 'Tree, order, total' and 'Turned down': orders to fork bits and back, and an order's total. Document 02, M-108: forks exchanged.
 
 use super::{
     refusals::{put, require, NOT_ALLOWED, WRONG_FORKS, WRONG_SIZE, WRONG_STOP},
@@ -64,6 +64,19 @@ pub fn order_of_bits(k: u16, bits: &[u8], order: &mut [u16]) -> Result<(), u16> 
     require(bits.len() >= string_length(n) && order.len() >= n, WRONG_SIZE)?;
     let exchanged = forks_in(n, &bits[..string_length(n)])?;
     put(&order_of(k.into(), &exchanged), order);
+    Ok(())
+}
+
+/// Document 02, M-108: 'a call that takes an allowed order and a set of forks and gives the order with those forks' states inverted'. 'Faulty
+/// orders are 9 or 10, faulty sets 12, in that sequence.'
+pub fn exchange(k: u16, order: &[u16], bits: &[u8], out: &mut [u16]) -> Result<(), u16> {
+    let n = count(k)?;
+    require(order.len() >= n && bits.len() >= string_length(n) && out.len() >= n, WRONG_SIZE)?;
+    check_order(&order[..n])?;
+    let inverted = forks_in(n, &bits[..string_length(n)])?;
+    let states = exchanged_forks(k.into(), &order[..n]);
+    let exchanged: Vec<bool> = states.iter().zip(&inverted).map(|(state, other)| state != other).collect();
+    put(&order_of(k.into(), &exchanged), out);
     Ok(())
 }
 

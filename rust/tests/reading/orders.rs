@@ -23,6 +23,33 @@ fn refusals_of_orders() {
     assert_eq!(order, [77; 2]);
 }
 
+/// M-108: 'Faulty orders are 9 or 10, faulty sets 12, in that sequence'; 'a set used twice gives the order back'.
+#[test]
+fn forks_exchanged() {
+    let mut out = [77; 5];
+    assert_eq!(exchange(11, &[], &[], &mut out), Err(WRONG_K));
+    assert_eq!(exchange(2, &[0, 1, 2], &[0], &mut out), Err(WRONG_SIZE));
+    assert_eq!(exchange(2, &[0, 1, 2, 4], &[], &mut out), Err(WRONG_SIZE));
+    assert_eq!(exchange(2, &[0, 1, 2, 4], &[1], &mut out[..3]), Err(WRONG_SIZE));
+    assert_eq!(exchange(2, &[0, 2, 1, 4], &[1], &mut out), Err(WRONG_STOP));
+    assert_eq!(exchange(2, &[0, 2, 1, 3], &[1], &mut out), Err(NOT_ALLOWED));
+    for byte in [0x01, 0x10, 0x03] {
+        assert_eq!(exchange(2, &[0, 1, 2, 3], &[byte], &mut out), Err(WRONG_FORKS));
+    }
+    assert_eq!(out, [77; 5]);
+    // the halves; a half's stops; of the 50 example's order its forks 1 and 2, and back
+    for (order, byte, due) in [
+        ([0, 1, 2, 3], 0b0010, [2, 3, 0, 1, 77]),
+        ([0, 1, 2, 3], 0b1000, [0, 1, 3, 2, 77]),
+        ([2, 3, 1, 0], 0b0110, [0, 1, 2, 3, 77]),
+        ([0, 1, 2, 3], 0b0110, [2, 3, 1, 0, 77]),
+        ([3, 2, 0, 1], 0b0000, [3, 2, 0, 1, 77]),
+    ] {
+        assert_eq!(exchange(2, &order, &[byte], &mut out), Ok(()));
+        assert_eq!(out, due);
+    }
+}
+
 /// The calls that take an order and a table, with an order file's 31 bytes for k = 1 and 29 for k = 0.
 #[test]
 fn refusals_of_orders_with_tables() {
