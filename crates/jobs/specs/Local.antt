@@ -1,16 +1,15 @@
 -- What the private functions promise each other.
 use mathlib.Core.Path.{_≡_}
 use mathlib.Core.List.{List}
-use Prim.Native.Nat.{ℕ, _+_, _-_, _*_, _^_, _≤_}
-use lib.ListN.{length, getD, take}
-use Rattle.base.specs.Outcome.{Outcome, giving, after}
-use Rattle.path.specs.Path.{path, bodyAfterHead, stopIn}
-use Rattle.times.specs.InPath.{timeOf, timeIn}
-use Rattle.tree.specs.Total.{moves}
+use Prim.Native.Nat.{ℕ, _*_, _^_, _≤_}
+use lib.ListN.{length}
+use Rattle.base.specs.Outcome.{Outcome, giving, andThen, done, after}
+use Rattle.path.specs.Path.{path, bodyAfterHead}
+use Rattle.times.specs.InPath.{timeIn}
 use Rattle.order_file.specs.declared.FileWritten.{FileWritten}
 use Rattle.order_file.specs.File.{fileSize}
+use Rattle.order_file.specs.Reading.{judgeFile}
 use Rattle.order_file.specs.Write.{said}
-use Rattle.jobs.specs.declared.check.Passed.{Passed}
 use Rattle.jobs.specs.Limit.{jobMaxK}
 use Rattle.jobs.specs.Plan.{wantedFile}
 
@@ -29,16 +28,6 @@ pub record FileIsLeft (o : Outcome (List ℕ)) (before afterwards : List ℕ) (r
   pub said : said r ≡ giving length o
   pub left : afterwards ≡ after o (λ file. file) before
 
--- the moves that were summed, and one more to stop number `to` of path bytes
-abbrev pub movedOn : (version : ℕ) (bytes : List ℕ) → Passed → ℕ → Passed
-movedOn version bytes p to =
-    record { sum = p .sum + timeOf (p .number) (p .stop) to (stopIn version to bytes); number = to; stop = stopIn version to bytes }
-
--- the moves up to place p − 1 of an order, below n, were summed
-pub record Summed (version : ℕ) (bytes : List ℕ) (n : ℕ) (order : List ℕ) (p : ℕ) (passed : Passed) : Type 0 where
-  pub begun : 1 ≤ p
-  pub within : p ≤ n
-  pub small : passed .sum ≤ p * 2 ^ 32
-  pub sum : passed .sum ≡ moves (timeIn version bytes) (take n order) (p - 1)
-  pub number : passed .number ≡ getD order (p - 1) 0
-  pub stop : passed .stop ≡ stopIn version (passed .number) bytes
+-- a file checked by the stops after a head and the times of their bytes
+abbrev pub checkAgainst : (bytes : List ℕ) (version k : ℕ) (file : List ℕ) → Outcome Unit
+checkAgainst bytes version k file = andThen (bodyAfterHead bytes version k) (λ ss. done (judgeFile k (timeIn version bytes) file))

@@ -8,7 +8,6 @@ mod plan;
 use base::WRONG_SIZE;
 use order_file::FileWritten;
 use path::PathWritten;
-use path::judge_body;
 use path::judge_head;
 ghost use mathlib.Core.Path.{_≡_};
 ghost use Rattle.base.specs.Buffer.{atEntry};
@@ -58,10 +57,6 @@ pub fn check_file(path: &[u8], highest: u16, file: &[u8]) -> FileChecked
     }
     if JOB_MAX_K < k {
         return FileChecked::Refused(WRONG_SIZE);
-    }
-    let body = judge_body(path, version, k);
-    if body != 0 {
-        return FileChecked::Refused(body);
     }
     check::check_against(path, version, k, file)
 }

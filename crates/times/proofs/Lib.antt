@@ -4,4 +4,5 @@ pub mod Rows
 pub mod Written
 pub mod Size
 pub mod InPath
+pub mod Summing
 pub mod Table

@@ -3,3 +3,4 @@ pub mod Time
 pub mod Rows
 pub mod Table
 pub mod InPath
+pub mod Summing

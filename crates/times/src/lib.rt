@@ -4,6 +4,7 @@
 // No public function has a `requires`: bad input is refused by its number before the table is touched.
 
 mod fill;
+mod moves;
 mod path_rows;
 mod travel;
 
@@ -19,6 +20,7 @@ ghost use Rattle.stop.specs.Lent.{lentStops};
 ghost use Rattle.times.specs.Time.{moveTime, said};
 ghost use Rattle.base.specs.Buffer.{atEntry};
 ghost use Rattle.times.specs.InPath.{timeOf, timeIn};
+ghost use Rattle.times.specs.Summing.{sumIn, said as saidSum};
 ghost use Rattle.times.specs.Table.{tableRoom, makeTable, tableFrom, MakesTable, FillsTable};
 
 // The time of a move, or the number of its refusal.
@@ -101,7 +103,7 @@ pub fn make_table(
 
 // The time from stop number i, `from`, to stop number j, `to`, in milliseconds: 0 from a stop to itself. Of stops that were not judged it is 0
 // where one of the two is out of range.
-pub fn time_of(i: usize, from: Stop, j: usize, to: Stop) -> u32
+fn time_of(i: usize, from: Stop, j: usize, to: Stop) -> u32
     ensures { λ r. ⌜ r ≡ timeOf i from j to ⌝ }
 {
     if i == j {
@@ -124,6 +126,24 @@ pub fn time_in(bytes: &[u8], version: u16, from: usize, to: usize) -> u32
         to,
         stop_from(bytes, version, to),
     )
+}
+
+// The sum of an order's moves, or the number of the refusal.
+pub enum MovesSummed {
+    Sum(u64),
+    Refused(u16),
+}
+
+// The sum of the moves between the first n numbers of an order, or all where there are fewer, by the stops of path bytes, whose head gave `version` and
+// `k`. The stops and the end are judged first. A number that is no stop's takes no time.
+pub fn sum_in(bytes: &[u8], version: u16, k: u16, order: &[u16]) -> MovesSummed
+    ensures { λ r. ⌜ saidSum r ≡ sumIn (atEntry bytes) version k (atEntry order) ⌝ }
+{
+    let refused = judge_body(bytes, version, k);
+    if refused != 0 {
+        return MovesSummed::Refused(refused);
+    }
+    MovesSummed::Sum(moves::sum_moves(bytes, version, base::stop_count(k), order))
 }
 
 // 0, or the number of the refusal for a table of `size` places of the stops of path bytes.

@@ -1,11 +1,11 @@
--- `jobs::check_file` meets its contract: the head, the job's own test, the body, and then the file.
-use mathlib.Core.Path.{_≡_, sym, ap, _∙_}
+-- `jobs::check_file` meets its contract: the head, the job's own test, and then the stops and the file.
+use mathlib.Core.Path.{_≡_, sym, _∙_}
 use Prim.Native.Nat.{_≤_}
 use denote.Ref.{now}
 use borrow.Author.Needs.{needs}
-use Rattle.base.specs.Outcome.{giving, number}
+use Rattle.base.specs.Outcome.{giving}
 use Rattle.path.specs.Path.{path, readPath, bodyAfterHead}
-use Rattle.path.proofs.JudgeLaws.{judged-head, judged-test, judged-rest, body-bad, body-good}
+use Rattle.path.proofs.JudgeLaws.{judged-head, judged-test, judged-rest}
 use Rattle.jobs.specs.Check.{said}
 use Rattle.jobs.specs.Limit.{smallEnough}
 use Rattle.jobs.proofs.Checking.{check-refused, check-after}
@@ -26,22 +26,7 @@ unfolding said
 returns-2 c = let h = c .before .before in sym (check-refused _ _ _ _ (judged-test _ _ _ (h .judge-head .result) (h .judge-head .ensures) (c .before .if1 .left) _ (large-fails _ (c .if2 .taken))))
 
 returns-3 : tie.Need-returns-3
-unfolding said
-returns-3 c = sym (check-refused _ _ _ _ (rest (c .before .before) ∙ rw (body-bad _ _ _ _ (c .before .judge-body .ensures) (c .if3 .taken))))
-
-returns-4 : tie.Need-returns-4
-returns-4 c =
-    let body = c .before .before in
-    c .check-against .ensures ∙ check-after _ _ _ _ _ (body-good _ _ _ (sym (body .judge-body .ensures) ∙ c .before .if3 .left)) (rest (body .before))
+returns-3 c = c .check-against .ensures ∙ check-after _ _ _ _ _ (rest (c .before))
 
 pub check-file-spec : {M : Type 1} → statement M
-check-file-spec =
-    tie.close
-    (tie.spec
-    (λ c κs. search needs)
-    returns
-    returns-2
-    (λ c κs. search needs)
-    returns-3
-    (λ c κs. search needs)
-    returns-4)
+check-file-spec = tie.close (tie.spec (λ c κs. search needs) returns returns-2 (λ c κs. search needs) returns-3)
