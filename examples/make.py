@@ -1,13 +1,15 @@
 #!/usr/bin/env python3
-"""Makes the sample paths of examples/paths: NAME.path is read, and NAME.answer is what the program must write.
+"""Makes the sample paths of examples/paths: NAME.path is read, and NAME.answer is what the program must write. And the samples of examples/files:
+NAME.order is an order file to be checked against NAME.path, and NAME.result is what the check gives.
 
 The answers of good paths are found by trying every set of forks, which is feasible up to k = 3, or are known for another reason that
 stands beside them. Run it anywhere; it writes beside itself.
 """
 import os
 import struct
+from fractions import Fraction
 
-HERE = os.path.join(os.path.dirname(os.path.abspath(__file__)), "paths")
+HERE = os.path.dirname(os.path.abspath(__file__))
 
 
 def record(kind, content):
@@ -36,7 +38,8 @@ def refused(number):
 
 def time(a, b, stops):
     far = max(abs(stops[b][i] - stops[a][i]) for i in range(3))
-    return -(-100 * far // stops[b][3])
+    # to the nearest whole millisecond, an exact half to the even one: so Python rounds fractions
+    return round(Fraction(100 * far, stops[b][3]))
 
 
 def order_of(k, forks):
@@ -57,12 +60,14 @@ def total(order, stops):
     return sum(time(a, b, stops) for a, b in zip(order, order[1:]))
 
 
-def order_file(k, stops, forks):
+def order_file(k, stops, forks, said=None):
+    """The file of an order, with another total where one is said."""
     n = 1 << k
     order = order_of(k, forks)
+    said = total(order, stops) if said is None else said
     return (
         record(4, struct.pack("<H", k))
-        + record(5, struct.pack("<Q", total(order, stops)) + struct.pack(f"<{n}H", *order))
+        + record(5, struct.pack("<Q", said) + struct.pack(f"<{n}H", *order))
         + record(6, forks.to_bytes((n + 7) // 8, "little"))
         + END
     )
@@ -125,14 +130,30 @@ def paths():
     yield "refused-8-k-10-head", head(5, 10), refused(8)
 
 
+def files():
+    """The name of each sample, its path, its order file and what the check gives."""
+    eight = path(4, 3, EIGHT)
+    forks = wanted(3, EIGHT)
+    yield "good-eight", eight, order_file(3, EIGHT, forks), 0
+    yield "good-unturned", eight, order_file(3, EIGHT, 0), 0
+    # when times were rounded up, three stops a tenth of a millimetre apart at 200 mm/s took 1 ms each: now they take 0
+    near = full([(0, 0, 0, 200), (1, 0, 0, 200), (2, 0, 0, 200), (3, 0, 0, 200)])
+    yield "good-near", path(5, 2, near), order_file(2, near, 0), 0
+    yield "refused-11-rounded-up", path(5, 2, near), order_file(2, near, 0, said=3), -11
+
+
 def main():
-    os.makedirs(HERE, exist_ok=True)
-    for name in os.listdir(HERE):
-        if name.endswith((".path", ".answer")):
-            os.remove(os.path.join(HERE, name))
-    for name, given, answer in paths():
-        for suffix, content in ((".path", given), (".answer", answer)):
-            with open(os.path.join(HERE, name + suffix), "wb") as out:
+    made = {"paths": (".path", ".answer"), "files": (".path", ".order", ".result")}
+    for folder, suffixes in made.items():
+        os.makedirs(os.path.join(HERE, folder), exist_ok=True)
+        for name in os.listdir(os.path.join(HERE, folder)):
+            if name.endswith(suffixes):
+                os.remove(os.path.join(HERE, folder, name))
+    samples = [("paths", name, contents) for name, *contents in paths()]
+    samples += [("files", name, (given, order, b"%d\n" % result)) for name, given, order, result in files()]
+    for folder, name, contents in samples:
+        for suffix, content in zip(made[folder], contents):
+            with open(os.path.join(HERE, folder, name + suffix), "wb") as out:
                 out.write(content)
 
 

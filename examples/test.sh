@@ -14,6 +14,7 @@ trap 'rm -rf "$work"' EXIT
 cp examples/make.py "$work"
 python3 "$work/make.py"
 diff -r "$work/paths" examples/paths
+diff -r "$work/files" examples/files
 
 count=0
 failed=0

@@ -5,11 +5,13 @@ use crate::{
     reading::Stop,
 };
 
-/// The time of a move in milliseconds, rounded up.
+/// The time of a move in milliseconds, to the nearest one, an exact half to the even one.
 #[inline(always)]
 fn time(from: [i32; 3], to: [i32; 3], speed: u16) -> u32 {
     let distance = from[0].abs_diff(to[0]).max(from[1].abs_diff(to[1])).max(from[2].abs_diff(to[2]));
-    (100 * distance).div_ceil(u32::from(speed))
+    let (way, speed) = (100 * distance, u32::from(speed));
+    let (whole, rest) = (way / speed, way % speed);
+    whole + u32::from(speed < 2 * rest + whole % 2)
 }
 
 /// The time from one stop to another.

@@ -32,8 +32,8 @@ starred =
     ∷ barred 2 (0 ∷ 2 ∷ 1 ∷ 3 ∷ [])
     -- '0, 0 is not allowed'
     ∷ barred 1 (0 ∷ 0 ∷ [])
-    -- 'D = 1, speed 200: 1 ms'
-    ∷ timed (onAxis 0 200) (onAxis 1 200) 1 1
+    -- 'D = 1, speed 200', by M-100: 'the D = 1 example becomes 0'
+    ∷ timed (onAxis 0 200) (onAxis 1 200) 1 0
     -- 'D = 40,000, speed 1: 4,000,000 ms'
     ∷ timed (record { at = pos 20000 ∷ pos 0 ∷ pos 0 ∷ []; speed = 1; blend = 0 }) (record { at = negsuc 19999 ∷ pos 0 ∷ pos 0 ∷ []; speed = 1; blend = 0 }) 40000 4000000
     ∷ []

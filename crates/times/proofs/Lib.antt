@@ -1,5 +1,6 @@
 -- Laws of the crate's definitions.
 pub mod Time
+pub mod Nearest
 pub mod Rows
 pub mod Written
 pub mod Size

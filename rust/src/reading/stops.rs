@@ -1,9 +1,10 @@
-//! Document 01, 'Travel time': stops, their ranges, and the table.
+//! Document 01, 'Travel time', with document 02's M-100: stops, their ranges, and the table.
 
 use super::{
     refusals::{put, require, OUT_OF_RANGE, WRONG_SIZE},
     tree::count,
 };
+use std::cmp::Ordering;
 
 /// 'A stop has three coordinates x, y, z .., a speed .. and a blend.'
 #[derive(Clone, Copy, PartialEq, Debug)]
@@ -23,19 +24,20 @@ impl Stop {
     }
 }
 
-/// 'D is the largest of the three absolute differences. The time from a to b, a ≠ b, is 100 × D / speed of b in milliseconds, rounded up;
-/// .. The blend does not count.' For stops in range.
+/// 'D is the largest of the three absolute differences. The time from a to b, a ≠ b, is 100 × D / speed of b in milliseconds .. The blend does
+/// not count.' M-100: 'to the nearest whole millisecond, with an exact half going to the even one'. For stops in range.
 pub fn travel_time(a: &Stop, b: &Stop) -> u32 {
     let mut largest = 0;
     for axis in 0..3 {
         largest = largest.max(a.at[axis].abs_diff(b.at[axis]));
     }
     let speed = u32::from(b.speed);
-    let whole = 100 * largest / speed;
-    if whole * speed == 100 * largest {
-        whole
-    } else {
-        whole + 1
+    let lower = 100 * largest / speed;
+    let (above_lower, below_upper) = (100 * largest - lower * speed, (lower + 1) * speed - 100 * largest);
+    match above_lower.cmp(&below_upper) {
+        Ordering::Less => lower,
+        Ordering::Greater => lower + 1,
+        Ordering::Equal => [lower, lower + 1].into_iter().find(|time| time % 2 == 0).expect("one of two neighbours is even"),
     }
 }
 

@@ -30,11 +30,14 @@ fn known_examples() {
 #[test]
 fn travel_times() {
     let stop = |x: i32, y: i32, z: i32, speed: u16| Stop { at: [x, y, z], speed, blend: 500 };
-    assert_eq!(travel_time(&stop(0, 0, 0, 1), &stop(0, -1, 0, 200)), 1);
+    // M-100: 'D = 1, 3, 5 at speed 200 give 0, 2, 2', and beside a half
+    for (distance, speed, time) in [(1, 200, 0), (3, 200, 2), (5, 200, 2), (7, 200, 4), (1, 199, 1), (1, 201, 0), (2, 200, 1), (0, 1, 0)] {
+        assert_eq!(travel_time(&stop(0, 0, 0, 1), &stop(0, -distance, 0, speed)), time);
+    }
     assert_eq!(travel_time(&stop(-20_000, 0, 0, 7), &stop(20_000, 0, 0, 1)), 4_000_000);
     assert_eq!(travel_time(&stop(0, 0, 0, 7), &stop(1, -2, 3, 100)), 3);
     assert_eq!(travel_time(&stop(0, 0, 0, 7), &stop(0, 0, 3, 300)), 1);
-    assert_eq!(travel_time(&stop(0, 0, 0, 7), &stop(0, 0, 3, 299)), 2);
+    assert_eq!(travel_time(&stop(0, 0, 0, 7), &stop(0, 0, 3, 299)), 1);
     assert_eq!(travel_time(&stop(5, 6, 7, 7), &stop(5, 6, 7, 9)), 0);
     let mut table = [77; 4];
     assert_eq!(make_table(1, &[0, 0, 0, 10, 0, 0], &[1, 100], &[0, 9], &mut table), Ok(()));
