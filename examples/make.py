@@ -38,6 +38,7 @@ def refused(number):
 
 def time(a, b, stops):
     far = max(abs(stops[b][i] - stops[a][i]) for i in range(3))
+    far -= min(stops[b][4], far // 2)
     # to the nearest whole millisecond, an exact half to the even one: so Python rounds fractions
     return round(Fraction(100 * far, stops[b][3]))
 
@@ -89,6 +90,9 @@ FIFTY = full([(0,), (30,), (10,), (20,)])
 ONE = full([(7, 8, 9, 10, 0)])
 EIGHT = full([(i * i * 37 % 101, i * 53 % 89, -i, 20 + i) for i in range(8)])
 BLENDED = full([(-20000, 0, 0, 1, 500), (20000, 0, 0, 2000, 1)])
+# Four pockets in a row, at 0, 10, 30 and 40 tenths of a millimetre, and a blend of 20 at the last. Straight along the row, either way, takes 40 ms. But on the way from
+# the second pocket to the last the arm cuts the corner by half of its 30, so 0, 1, 3 and then one back to 2 takes 10 + 15 + 10 = 35 ms.
+CORNER = full([(0,), (10,), (30,), (40, 0, 0, 100, 20)])
 ALIKE = full([(5, 5, 5, 1)] * 64)
 
 
@@ -99,6 +103,10 @@ def paths():
         yield f"good-{name}-4", path(4, k, stops), answer
         yield f"good-{name}-5", path(5, k, stops), answer
     yield "good-blended-5", path(5, 1, BLENDED), order_file(1, BLENDED, wanted(1, BLENDED))
+    unblended = [stop[:4] + (0,) for stop in CORNER]
+    assert order_of(2, wanted(2, CORNER)) == [0, 1, 3, 2] and order_of(2, wanted(2, unblended)) == [3, 2, 1, 0]
+    yield "good-corner-5", path(5, 2, CORNER), order_file(2, CORNER, wanted(2, CORNER))
+    yield "good-no-corner-5", path(5, 2, unblended), order_file(2, unblended, wanted(2, unblended))
     # all totals are 0, so the smallest stop is in the last place, and so on back: every fork is exchanged
     yield "good-alike-4", path(4, 6, ALIKE), order_file(6, ALIKE, (1 << 64) - 2)
     yield "good-alike-5", path(5, 6, ALIKE), order_file(6, ALIKE, (1 << 64) - 2)

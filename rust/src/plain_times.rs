@@ -5,11 +5,12 @@ use crate::{
     reading::Stop,
 };
 
-/// The time of a move in milliseconds, to the nearest one, an exact half to the even one.
+/// The time of a move in milliseconds, to the nearest one, an exact half to the even one, of the way that the blend leaves.
 #[inline(always)]
-fn time(from: [i32; 3], to: [i32; 3], speed: u16) -> u32 {
+fn time(from: [i32; 3], to: [i32; 3], speed: u16, blend: u16) -> u32 {
     let distance = from[0].abs_diff(to[0]).max(from[1].abs_diff(to[1])).max(from[2].abs_diff(to[2]));
-    let (way, speed) = (100 * distance, u32::from(speed));
+    let counted = distance - u32::from(blend).min(distance / 2);
+    let (way, speed) = (100 * counted, u32::from(speed));
     let (whole, rest) = (way / speed, way % speed);
     whole + u32::from(speed < 2 * rest + whole % 2)
 }
@@ -17,7 +18,7 @@ fn time(from: [i32; 3], to: [i32; 3], speed: u16) -> u32 {
 /// The time from one stop to another.
 #[inline(always)]
 pub(crate) fn move_time(from: &Stop, to: &Stop) -> u32 {
-    time(from.at, to.at, to.speed)
+    time(from.at, to.at, to.speed, to.blend)
 }
 
 /// The table of judged stops.
@@ -54,7 +55,7 @@ pub fn make_table(k: u16, coords: &[i32], speeds: &[u16], blends: &[u16], table:
     }
     for from in 0..n {
         for to in 0..n {
-            table[from * n + to] = time(at(from), at(to), speeds[to]);
+            table[from * n + to] = time(at(from), at(to), speeds[to], blends[to]);
         }
     }
     Ok(())
@@ -70,8 +71,8 @@ pub fn make_table_by_slices(k: u16, coords: &[i32], speeds: &[u16], blends: &[u1
         }
     }
     for (&from, row) in coords.iter().zip(table.chunks_exact_mut(n)) {
-        for ((&to, &speed), entry) in coords.iter().zip(speeds).zip(row) {
-            *entry = time(from, to, speed);
+        for (((&to, &speed), &blend), entry) in coords.iter().zip(speeds).zip(blends).zip(row) {
+            *entry = time(from, to, speed, blend);
         }
     }
     Ok(())

@@ -5,7 +5,7 @@ use Prim.Native.Nat.{ℕ, _<_}
 use lib.ListN.{length, getD}
 use Rattle.walks.specs.Prefer.{lexb, beforeb}
 use Rattle.walks.specs.Places.{stopsTo}
-use Rattle.times.specs.Time.{gap, distance, nearest, travel, time, timeBetween}
+use Rattle.times.specs.Time.{gap, distance, counted, nearest, travel, time, timeBetween}
 use Rattle.times.specs.Table.{entryOf}
 use Rattle.tree.specs.Wanted.{wanted, bestOf, Shortest}
 use Rattle.orders.specs.Same.{alike}
@@ -16,7 +16,7 @@ use Rattle.starred_examples.proofs.Sound.{all-sound, all-turned-down}
 
 -- every starred example passes its test
 starred-hold : allHold starred ≡ true
-unfolding allHold holds isWanted forkSet alike isAllowed someSet wanted bestOf beforeb lexb stopsTo entryOf timeBetween time travel nearest distance gap
+unfolding allHold holds isWanted forkSet alike isAllowed someSet wanted bestOf beforeb lexb stopsTo entryOf timeBetween time travel counted nearest distance gap
 starred-hold = refl
 
 -- THE TEN STARRED EXAMPLES
@@ -25,7 +25,7 @@ examples d = all-sound starred d starred-hold
 
 -- each wrong answer fails it
 wrong-fail : allTurnedDown 2 fourStops wrongAnswers ≡ true
-unfolding allTurnedDown isWanted alike wanted bestOf beforeb lexb stopsTo entryOf timeBetween time travel nearest distance gap
+unfolding allTurnedDown isWanted alike wanted bestOf beforeb lexb stopsTo entryOf timeBetween time travel counted nearest distance gap
 wrong-fail = refl
 
 -- NONE OF THE WRONG ANSWERS MEETS DEMAND 3

@@ -1,4 +1,4 @@
-//! Document 01, 'Travel time', with document 02's M-100: stops, their ranges, and the table.
+//! Document 01, 'Travel time', with document 02's M-100 and M-105: stops, their ranges, and the table.
 
 use super::{
     refusals::{put, require, OUT_OF_RANGE, WRONG_SIZE},
@@ -24,16 +24,18 @@ impl Stop {
     }
 }
 
-/// 'D is the largest of the three absolute differences. The time from a to b, a ≠ b, is 100 × D / speed of b in milliseconds .. The blend does
-/// not count.' M-100: 'to the nearest whole millisecond, with an exact half going to the even one'. For stops in range.
+/// 'D is the largest of the three absolute differences. The time from a to b, a ≠ b, is 100 × D / speed of b in milliseconds ..' M-105: 'The distance
+/// counted towards b becomes D − min(blend of b, floor(D / 2)), before multiplying and rounding.' M-100: 'to the nearest whole millisecond, with
+/// an exact half going to the even one'. For stops in range.
 pub fn travel_time(a: &Stop, b: &Stop) -> u32 {
     let mut largest = 0;
     for axis in 0..3 {
         largest = largest.max(a.at[axis].abs_diff(b.at[axis]));
     }
+    let counted = largest - u32::from(b.blend).min(largest / 2);
     let speed = u32::from(b.speed);
-    let lower = 100 * largest / speed;
-    let (above_lower, below_upper) = (100 * largest - lower * speed, (lower + 1) * speed - 100 * largest);
+    let lower = 100 * counted / speed;
+    let (above_lower, below_upper) = (100 * counted - lower * speed, (lower + 1) * speed - 100 * counted);
     match above_lower.cmp(&below_upper) {
         Ordering::Less => lower,
         Ordering::Greater => lower + 1,

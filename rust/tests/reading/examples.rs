@@ -29,7 +29,7 @@ fn known_examples() {
 
 #[test]
 fn travel_times() {
-    let stop = |x: i32, y: i32, z: i32, speed: u16| Stop { at: [x, y, z], speed, blend: 500 };
+    let stop = |x: i32, y: i32, z: i32, speed: u16| Stop { at: [x, y, z], speed, blend: 0 };
     // M-100: 'D = 1, 3, 5 at speed 200 give 0, 2, 2', and beside a half
     for (distance, speed, time) in [(1, 200, 0), (3, 200, 2), (5, 200, 2), (7, 200, 4), (1, 199, 1), (1, 201, 0), (2, 200, 1), (0, 1, 0)] {
         assert_eq!(travel_time(&stop(0, 0, 0, 1), &stop(0, -distance, 0, speed)), time);
@@ -39,9 +39,15 @@ fn travel_times() {
     assert_eq!(travel_time(&stop(0, 0, 0, 7), &stop(0, 0, 3, 300)), 1);
     assert_eq!(travel_time(&stop(0, 0, 0, 7), &stop(0, 0, 3, 299)), 1);
     assert_eq!(travel_time(&stop(5, 6, 7, 7), &stop(5, 6, 7, 9)), 0);
+    // M-105: 'With D = 30 a blend of 10 counts 20, and a blend of 20 counts 15.' It is the blend of the stop where the move ends.
+    for (blend, time) in [(0, 30), (10, 20), (14, 16), (15, 15), (16, 15), (20, 15), (500, 15)] {
+        assert_eq!(travel_time(&stop(0, 0, 0, 7), &Stop { blend, ..stop(0, 30, 0, 100) }), time);
+        assert_eq!(travel_time(&Stop { blend, ..stop(0, 0, 0, 7) }, &stop(0, 30, 0, 100)), 30);
+    }
+    assert_eq!(travel_time(&stop(0, 0, 0, 7), &Stop { blend: 500, ..stop(31, 0, 0, 100) }), 16, "floor(31 / 2) is 15");
     let mut table = [77; 4];
-    assert_eq!(make_table(1, &[0, 0, 0, 10, 0, 0], &[1, 100], &[0, 9], &mut table), Ok(()));
-    assert_eq!(table, [0, 10, 1000, 0]);
+    assert_eq!(make_table(1, &[0, 0, 0, 10, 0, 0], &[1, 100], &[0, 4], &mut table), Ok(()));
+    assert_eq!(table, [0, 6, 1000, 0]);
 }
 
 #[test]
