@@ -44,6 +44,8 @@ pub struct Lent<R: Room> {
     pub pivots: R::Of<u16>,
     pub bits: R::Of<u8>,
     pub list: R::Of<u16>,
+    pub empties: R::Of<u8>,
+    pub work: R::Of<u64>,
     pub out: R::Of<u8>,
 }
 
@@ -62,6 +64,8 @@ impl<R: Room> Lent<R> {
             pivots: room.hold(&self.pivots),
             bits: room.hold(&self.bits),
             list: room.hold(&self.list),
+            empties: room.hold(&self.empties),
+            work: room.hold(&self.work),
             out: room.hold(&self.out),
         }
     }
@@ -80,6 +84,8 @@ impl<R: Room> Lent<R> {
             ("pivots", *self.pivots == *other.pivots),
             ("bits", *self.bits == *other.bits),
             ("list", *self.list == *other.list),
+            ("empties", *self.empties == *other.empties),
+            ("work", *self.work == *other.work),
             ("out", *self.out == *other.out),
         ];
         same.into_iter().find(|(_, same)| !same).map(|(name, _)| name)
@@ -94,6 +100,7 @@ pub enum Call {
     MakeTable { k: u16 },
     Plan { k: u16 },
     PlanPath { highest: u16 },
+    PlanFilled { k: u16 },
     ForkBits { k: u16 },
     OrderOfBits { k: u16 },
     Exchange { k: u16 },
@@ -143,6 +150,10 @@ macro_rules! made_to {
             Call::PlanPath { highest } => {
                 $module::plan_path(&$l.bytes, highest, &mut $l.table, &mut $l.order, &mut $l.totals, &mut $l.pivots)
                     .map(|(version, k, total)| vec![version.into(), k.into(), one(total)[0]])
+            }
+            Call::PlanFilled { k } => {
+                $module::plan_filled(k, &$l.table, &$l.empties, &mut $l.list, &mut $l.bits, &mut $l.work)
+                    .map(|(total, length)| vec![one(total)[0], length as i64])
             }
             Call::ForkBits { k } => $module::fork_bits(k, &$l.order, &mut $l.bits).map(|()| vec![]),
             Call::OrderOfBits { k } => $module::order_of_bits(k, &$l.bits, &mut $l.order).map(|()| vec![]),

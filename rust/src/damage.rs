@@ -10,7 +10,7 @@ const EDGES: [u16; 20] = [0, 1, 2, 3, 4, 5, 6, 7, 8, 10, 11, 63, 64, 500, 501, 2
 const WIDE_EDGES: [i32; 8] = [20_000, 20_001, -20_000, -20_001, 0, -1, i32::MIN, i32::MAX];
 
 /// One of some numbers.
-fn one_of<T: Copy>(random: &mut Random, numbers: &[T]) -> T {
+pub fn one_of<T: Copy>(random: &mut Random, numbers: &[T]) -> T {
     numbers[random.below(numbers.len() as u64) as usize]
 }
 
@@ -101,7 +101,7 @@ fn another_length<T: Copy + Default>(random: &mut Random, needed: usize, numbers
 /// One lent buffer of another length.
 fn spoil_length(random: &mut Random, lent: &mut Lent<Heap>) {
     let n = lent.table.len().isqrt();
-    match random.below(9) {
+    match random.below(11) {
         0 => another_length(random, 3 * n, &mut lent.coords),
         1 => another_length(random, n, &mut lent.speeds),
         2 => another_length(random, n, &mut lent.blends),
@@ -110,6 +110,8 @@ fn spoil_length(random: &mut Random, lent: &mut Lent<Heap>) {
         5 => another_length(random, 2 * n, &mut lent.totals),
         6 => another_length(random, 2 * n, &mut lent.pivots),
         7 => another_length(random, n, &mut lent.list),
+        8 => another_length(random, n, &mut lent.empties),
+        9 => another_length(random, n * n, &mut lent.work),
         _ => another_length(random, n.div_ceil(8), &mut lent.bits),
     }
 }
@@ -128,7 +130,7 @@ fn spoil_number(random: &mut Random, call: &mut Call) {
         }
         Call::CellRewrite { highest, version } => *(if random.below(2) == 0 { highest } else { version }) = other,
         Call::WritePath { version, k } => *(if random.below(2) == 0 { version } else { k }) = other,
-        Call::MakeTable { k } | Call::Plan { k } | Call::ForkBits { k } | Call::OrderOfBits { k } => *k = other,
+        Call::MakeTable { k } | Call::Plan { k } | Call::PlanFilled { k } | Call::ForkBits { k } | Call::OrderOfBits { k } => *k = other,
         Call::Exchange { k } | Call::OrderTotal { k } | Call::WriteOrderFile { k } | Call::ReadOrderFile { k } => *k = other,
     }
 }
@@ -141,17 +143,19 @@ fn put_at<T>(random: &mut Random, numbers: &mut [T], number: T) {
     }
 }
 
-/// Another content of a lent input: a stop's field, a stop of the order, two of them exchanged, a fork bit. In an output it changes the
+/// Another content of a lent input: a stop's field, a stop of the order, two of them exchanged, a byte that says what is
+/// empty, a fork bit. In an output it changes the
 /// pattern alone.
 fn spoil_content(random: &mut Random, lent: &mut Lent<Heap>) {
     let (edge, wide) = (one_of(random, &EDGES), one_of(random, &WIDE_EDGES));
     let n = lent.order.len();
-    match random.below(6) {
+    match random.below(7) {
         0 => put_at(random, &mut lent.coords, wide),
         1 => put_at(random, &mut lent.speeds, edge),
         2 => put_at(random, &mut lent.blends, edge),
         3 => put_at(random, &mut lent.order, edge),
-        4 if n > 0 => lent.order.swap(place(random, n), place(random, n)),
+        4 => put_at(random, &mut lent.empties, edge as u8),
+        5 if n > 0 => lent.order.swap(place(random, n), place(random, n)),
         _ => put_at(random, &mut lent.bits, 1 << (edge % 8)),
     }
 }

@@ -31,6 +31,10 @@ mod declared {
             bytes: *const u8, bytes_len: usize, highest: u16, table: *mut u32, table_len: usize,
             order: *mut u16, order_len: usize, totals: *mut u64, totals_len: usize, pivots: *mut u16, pivots_len: usize,
         ) -> i64;
+        pub fn ffi_plan_filled(
+            k: u16, table: *const u32, table_len: usize, empties: *const u8, empties_len: usize,
+            list: *mut u16, list_len: usize, bits: *mut u8, bits_len: usize, work: *mut u64, work_len: usize,
+        ) -> i64;
         pub fn ffi_fork_bits(k: u16, order: *const u16, order_len: usize, bits: *mut u8, bits_len: usize) -> i64;
         pub fn ffi_order_of_bits(k: u16, bits: *const u8, bits_len: usize, order: *mut u16, order_len: usize) -> i64;
         pub fn ffi_exchange(
@@ -120,6 +124,19 @@ pub fn plan_path(
         )
     };
     answer(result).map(unpacked).map(|(total, version, k)| (version, k, total))
+}
+
+/// `filled::plan_filled`: the total and the list's length, out of one number.
+pub fn plan_filled(k: u16, table: &[u32], empties: &[u8], list: &mut [u16], bits: &mut [u8], work: &mut [u64]) -> Result<(u64, usize), u16> {
+    let (list_len, bits_len, work_len) = (list.len(), bits.len(), work.len());
+    let (list, bits, work) = (list.as_mut_ptr(), bits.as_mut_ptr(), work.as_mut_ptr());
+    #[rustfmt::skip]
+    let result = unsafe {
+        declared::ffi_plan_filled(
+            k, table.as_ptr(), table.len(), empties.as_ptr(), empties.len(), list, list_len, bits, bits_len, work, work_len,
+        )
+    };
+    answer(result).map(|value| (value >> 7, (value & 127) as usize))
 }
 
 /// `orders::fork_bits`.

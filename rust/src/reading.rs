@@ -5,6 +5,7 @@
 mod cell;
 mod draws;
 mod files;
+mod filled;
 mod orders;
 mod paths;
 mod plans;
@@ -16,6 +17,7 @@ mod tree;
 pub use cell::{cell_check, cell_plan, cell_rewrite};
 pub use draws::draw_number;
 pub use files::{read_order_file, write_order_file};
+pub use filled::{list_by_enumeration, list_by_groups, plan_filled};
 pub use orders::{exchange, fork_bits, order_of_bits, order_total};
 pub use paths::{read_path, write_path};
 pub use plans::{plan, plan_path};

@@ -3,7 +3,7 @@
 use crate::{
     calls::{Call, Heap, Lent},
     cases::{any_set, any_table},
-    damage::spoil,
+    damage::{one_of, spoil},
     random::Random,
     reading::{self, order_of},
 };
@@ -53,6 +53,8 @@ pub fn planner_lent(random: &mut Random, table: &[u32], order: usize, totals: us
         pivots: (0..pivots).map(|_| random.next() as u16).collect(),
         bits: vec![],
         list: vec![],
+        empties: vec![],
+        work: vec![],
         out: vec![],
     }
 }
@@ -109,7 +111,7 @@ impl World {
     }
 
     /// Each call once, with numbers that suit this world.
-    pub fn calls(&self, random: &mut Random) -> [Call; 15] {
+    pub fn calls(&self, random: &mut Random) -> [Call; 16] {
         let k = self.k;
         let highest = if self.version == 5 || random.below(2) == 0 { 5 } else { 4 };
         let version = 4 + random.below(2) as u16;
@@ -120,6 +122,7 @@ impl World {
             Call::MakeTable { k },
             Call::Plan { k },
             Call::PlanPath { highest },
+            Call::PlanFilled { k },
             Call::ForkBits { k },
             Call::OrderOfBits { k },
             Call::Exchange { k },
@@ -153,6 +156,8 @@ impl World {
             pivots: pattern(random, 2 * n, |x| x as u16),
             bits: pattern(random, n.div_ceil(8), |x| x as u8),
             list: pattern(random, n, |x| x as u16),
+            empties: pattern(random, n, |x| x as u8),
+            work: pattern(random, if self.k <= 6 { n * n } else { 0 }, |x| x),
             out: pattern(random, out, |x| x as u8),
         };
         if matches!(call, Call::WritePath { .. } | Call::MakeTable { .. }) {
@@ -160,7 +165,7 @@ impl World {
             lent.speeds[..n].copy_from_slice(&self.speeds);
             lent.blends[..n].copy_from_slice(&self.blends);
         }
-        if matches!(call, Call::Plan { .. } | Call::OrderTotal { .. } | Call::WriteOrderFile { .. } | Call::ReadOrderFile { .. }) {
+        if matches!(call, Call::Plan { .. } | Call::PlanFilled { .. } | Call::OrderTotal { .. } | Call::WriteOrderFile { .. } | Call::ReadOrderFile { .. }) {
             lent.table.copy_from_slice(&self.table);
         }
         if matches!(call, Call::ForkBits { .. } | Call::Exchange { .. } | Call::OrderTotal { .. } | Call::WriteOrderFile { .. }) {
@@ -168,6 +173,11 @@ impl World {
         }
         if matches!(call, Call::OrderOfBits { .. }) {
             lent.bits[..n.div_ceil(8)].copy_from_slice(&self.bits);
+        }
+        if matches!(call, Call::PlanFilled { .. }) {
+            // of so many stops one is empty: all, most, half, few, none
+            let of = one_of(random, &[1, 2, 2, 4, 16, u64::MAX]);
+            lent.empties[..n].fill_with(|| u8::from(random.below(of) == 0));
         }
         if matches!(call, Call::Exchange { .. }) {
             // another set than the order's own

@@ -56,6 +56,7 @@ fn every_call_with_faults() {
     }
     assert_eq!(seen.numbers("OrderOfBits"), [0, 5, 8, 12]);
     assert_eq!(seen.numbers("Exchange"), [0, 5, 8, 9, 10, 12]);
+    assert_eq!(seen.numbers("PlanFilled"), [0, 5, 6, 8]);
     assert_eq!(seen.numbers("ReadOrderFile"), [0, 1, 2, 3, 5, 7, 8, 9, 10, 11, 12]);
 }
 
@@ -182,6 +183,7 @@ fn with_number(call: Call, number: u16) -> Vec<Call> {
         Call::MakeTable { .. } => vec![Call::MakeTable { k: number }],
         Call::Plan { .. } => vec![Call::Plan { k: number }],
         Call::PlanPath { .. } => vec![Call::PlanPath { highest: number }],
+        Call::PlanFilled { .. } => vec![Call::PlanFilled { k: number }],
         Call::ForkBits { .. } => vec![Call::ForkBits { k: number }],
         Call::OrderOfBits { .. } => vec![Call::OrderOfBits { k: number }],
         Call::Exchange { .. } => vec![Call::Exchange { k: number }],
@@ -240,9 +242,11 @@ fn every_length() {
             shortened(|lent, length| cut(&mut lent.pivots, length));
             shortened(|lent, length| cut(&mut lent.bits, length));
             shortened(|lent, length| cut(&mut lent.list, length));
+            shortened(|lent, length| cut(&mut lent.empties, length));
             shortened(|lent, length| cut(&mut lent.out, length));
             if k <= 3 {
                 shortened(|lent, length| cut(&mut lent.table, length));
+                shortened(|lent, length| cut(&mut lent.work, length));
             }
         }
     }

@@ -5,6 +5,7 @@ use evidence::{
     calls::{by_reading, Answer, Call, Heap, Lent},
     cases::{rounds, seeded},
     plain::Slices,
+    plain_filled::{self, One, Two},
     plain_jobs,
     plain_path::{self, Chunks, Indices},
     plain_times,
@@ -30,6 +31,11 @@ fn planned((version, k, total): (u16, u16, u64)) -> Vec<i64> {
     vec![version.into(), k.into(), total as i64]
 }
 
+/// A list's total and its length.
+fn listed((total, length): (u64, usize)) -> Vec<i64> {
+    vec![total as i64, length as i64]
+}
+
 /// A call made to plain Rust.
 type Plain = Box<dyn Fn(&mut Lent<Heap>) -> Answer>;
 
@@ -47,6 +53,10 @@ fn by_plain(call: Call) -> Vec<Plain> {
         ],
         Call::PlanPath { highest } => vec![
             Box::new(move |l| plain_jobs::plan_path::<Slices>(&l.bytes, highest, &mut l.table, &mut l.order, &mut l.totals, &mut l.pivots).map(planned)),
+        ],
+        Call::PlanFilled { k } => vec![
+            Box::new(move |l| plain_filled::plan_filled::<One>(k, &l.table, &l.empties, &mut l.list, &mut l.bits, &mut l.work).map(listed)),
+            Box::new(move |l| plain_filled::plan_filled::<Two>(k, &l.table, &l.empties, &mut l.list, &mut l.bits, &mut l.work).map(listed)),
         ],
         Call::CellPlan { highest } => vec![
             Box::new(move |l| signed(plain_jobs::cell_plan::<Slices>(&l.bytes, highest, &mut l.out))),

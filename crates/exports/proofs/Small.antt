@@ -1,5 +1,5 @@
 -- No value that a call gives is cut: totals of 32-bit entries have 42 bits, and a signed result holds them beside a version and k.
-use mathlib.Core.Path.{_≡_, ap}
+use mathlib.Core.Path.{_≡_, ap, _∙_}
 use mathlib.Core.List.{List}
 use Prim.Native.Nat.{ℕ, _+_, _*_, _≤_}
 use native.Mathlib.Omega.{arith}
@@ -7,10 +7,10 @@ use lib.IntN.{pos}
 use lib.ListN.{length}
 use Rattle.tree.specs.Total.{total}
 use Rattle.tree.proofs.Small.{total-small}
-use Rattle.signed.specs.Result.{given}
+use Rattle.signed.specs.Result.{given, atMost}
 use Rattle.signed.proofs.AtMost.{kept-below}
 use Rattle.signed.proofs.Result.{value-given}
-use Rattle.exports.specs.Values.{mostPacked, totalUnit, versionUnit, packed}
+use Rattle.exports.specs.Values.{mostPacked, totalUnit, versionUnit, packed, mostListed, mostLength, lengthUnit, listed}
 
 -- a total of up to 1,024 stops by any times of 32 bits is given whole, by itself and beside a version and k
 pub total-given : (t : ℕ → ℕ → ℕ) (o : List ℕ) → ((a b : ℕ) → t a b ≤ 4294967295) → length o ≤ 1024 → given (total t o) ≡ pos (total t o)
@@ -20,3 +20,10 @@ pub total-packed : (t : ℕ → ℕ → ℕ) (o : List ℕ) (version k : ℕ) �
     → packed (total t o) version k ≡ total t o * totalUnit + version * versionUnit + k
 unfolding packed
 total-packed t o version k h b = ap (λ (x : ℕ). x * totalUnit + version * versionUnit + k) (kept-below mostPacked (total t o) (total-small t o h b))
+
+-- so is the total of a list of up to 64 stops, beside its length
+pub list-packed : (t : ℕ → ℕ → ℕ) (o : List ℕ) → ((a b : ℕ) → t a b ≤ 4294967295) → length o ≤ 64 → listed (total t o) (length o) ≡ total t o * lengthUnit + length o
+unfolding listed
+list-packed t o h b =
+    ap (λ (x : ℕ). x * lengthUnit + atMost mostLength (length o)) (kept-below mostListed (total t o) (omega (arith, total-small t o h (omega (arith, b)))))
+    ∙ ap (λ (x : ℕ). total t o * lengthUnit + x) (kept-below mostLength (length o) (omega (arith, b)))

@@ -44,6 +44,26 @@ heading h = packed 0 (h .version) (h .k)
 abbrev pub planned : Planned → ℕ
 planned p = packed (p .total) (p .version) (p .k)
 
+-- ---- the length of a list, and its total above it
+
+-- a list has at most 64 stops
+abbrev pub lengthUnit : ℕ
+lengthUnit = 128
+
+abbrev pub mostLength : ℕ
+mostLength = 127
+
+-- the largest total that stands beside a length: 56 bits
+abbrev pub mostListed : ℕ
+mostListed = 72057594037927935
+
+unfoldable pub listed : (total length : ℕ) → ℕ
+listed total length = atMost mostListed total * lengthUnit + atMost mostLength length
+
+-- of a list that was planned
+abbrev pub listValue : ℕ × ℕ → ℕ
+listValue p = listed (p .0) (p .1)
+
 -- ---- draws
 
 -- the verdict of a draw: 0 a stop, 1 the end, or the refusal

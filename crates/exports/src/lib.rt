@@ -4,12 +4,14 @@
 // Exported names begin with `ffi`. No exported function has a `requires`, and each keeps all that the call behind it promises.
 mod packed;
 
+use filled::ListPlanned;
 use order_file::FileRead;
 use order_file::FileWritten;
 use orders::BitsMade;
 use orders::OrderMade;
 use orders::OrderTotal;
 use packed::pack;
+use packed::pack_list;
 use packed::stop_field;
 use path::PathRead;
 use path::PathWritten;
@@ -26,6 +28,7 @@ ghost use Rattle.path.specs.Written.{WritesPath, said as pathWritten};
 ghost use Rattle.times.specs.Table.{MakesTable, said as tableMade};
 ghost use Rattle.planner.specs.Plan.{PlansOrder, said as orderPlanned};
 ghost use Rattle.path_plan.specs.PathPlan.{PlansPath, said as pathPlanned};
+ghost use Rattle.filled.specs.Filled.{PlansList, said as listPlanned};
 ghost use Rattle.orders.specs.ForkBits.{MakesBits, said as bitsMade};
 ghost use Rattle.orders.specs.OrderOfBits.{MakesOrder, said as orderMade};
 ghost use Rattle.orders.specs.OrderTotal.{orderTotal};
@@ -35,7 +38,7 @@ ghost use Rattle.order_file.specs.Read.{ReadsFile, said as fileRead};
 ghost use Rattle.reader.specs.Draws.{drawAnswer};
 ghost use Rattle.signed.specs.Result.{signed};
 ghost use Rattle.exports.specs.Exported.{Exported};
-ghost use Rattle.exports.specs.Values.{nothing, itself, heading, planned, verdict, fieldOf};
+ghost use Rattle.exports.specs.Values.{nothing, itself, heading, planned, listValue, verdict, fieldOf};
 
 // `path::read_path`: version and k in one number.
 #[no_mangle]
@@ -126,6 +129,25 @@ pub extern "C" fn ffi_plan_path(
     match answer {
         PathPlanned::Done { version, k, total } => value(pack(total, version, k)),
         PathPlanned::Refused(number) => refusal(number),
+    }
+}
+
+// `filled::plan_filled`: the list's length, and its total above it.
+#[no_mangle]
+pub extern "C" fn ffi_plan_filled(
+    k: u16,
+    table: &[u32],
+    empties: &[u8],
+    list: &mut [u16],
+    bits: &mut [u8],
+    work: &mut [u64],
+) -> i64
+    ensures { λ r. ⌜ Exported (PlansList k table empties list bits work) (λ a. signed listValue (listPlanned a)) r ⌝ }
+{
+    let answer = filled::plan_filled(k, table, empties, list, bits, work);
+    match answer {
+        ListPlanned::Done(total, length) => value(pack_list(total, length)),
+        ListPlanned::Refused(number) => refusal(number),
     }
 }
 

@@ -1,9 +1,10 @@
-// Values of more than one part as one number: a version and k with a total above them, and a stop field by field.
+// Values of more than one part as one number: a version and k with a total above them, a list's length with its total above it, and a stop
+// field by field.
 
 use signed::at_most;
 use stop::Stop;
 ghost use mathlib.Core.Path.{_≡_};
-ghost use Rattle.exports.specs.Values.{packed, fieldOf};
+ghost use Rattle.exports.specs.Values.{packed, listed, fieldOf};
 
 // What one of the version counts beside k, which has 16 bits, and what one of the total counts beside both.
 const VERSION_UNIT: u64 = 65_536;
@@ -12,6 +13,13 @@ const TOTAL_UNIT: u64 = 1_048_576;
 
 // The largest total that stands beside a version and k: 42 bits.
 const MOST_PACKED: u64 = 4_398_046_511_103;
+
+// What one of the total counts beside the length of a list, the largest length, and the largest total that stands beside one: 56 bits.
+const LENGTH_UNIT: u64 = 128;
+
+const MOST_LENGTH: u64 = 127;
+
+const MOST_LISTED: u64 = 72_057_594_037_927_935;
 
 // The fields of a stop after x, y and z.
 const SPEED_FIELD: u16 = 3;
@@ -23,6 +31,13 @@ pub fn pack(total: u64, version: u16, k: u16) -> u64
     ensures { λ r. ⌜ r ≡ packed total version k ⌝ }
 {
     at_most(MOST_PACKED, total) * TOTAL_UNIT + (version as u64) * VERSION_UNIT + (k as u64)
+}
+
+// The length of a list, and its total above it.
+pub fn pack_list(total: u64, length: usize) -> u64
+    ensures { λ r. ⌜ r ≡ listed total length ⌝ }
+{
+    at_most(MOST_LISTED, total) * LENGTH_UNIT + at_most(MOST_LENGTH, length as u64)
 }
 
 // A field of a stop: 0 to 2 are x, y, z, 3 is the speed, 4 the blend, and any other is 0.

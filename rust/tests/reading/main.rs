@@ -2,6 +2,7 @@
 //! calls the library.
 
 mod examples;
+mod filled;
 mod orders;
 mod paths;
 

@@ -5,6 +5,7 @@ use evidence::{
     calls::{Call, Heap, Lent},
     ffi,
     plain::{Checked, Columns, Pairs, Slices, Step},
+    plain_filled::{self, Fill, One, Two},
     plain_jobs,
     plain_path::{self, Chunks, Indices, Way},
     plain_times,
@@ -60,6 +61,20 @@ const CASES: &[Case] = &[
         ],
     },
     Case {
+        name: "plan_filled, all filled",
+        call: |k| Call::PlanFilled { k },
+        paths: &[(6, 5)],
+        proved: |k, l| all_filled(l, |l| ffi::plan_filled(k, &l.table, &l.empties, &mut l.list, &mut l.bits, &mut l.work)),
+        plain: &[("one stop at a time", plain_filled_all::<One>), ("two stops at a time", plain_filled_all::<Two>)],
+    },
+    Case {
+        name: "plan_filled, 28 filled",
+        call: |k| Call::PlanFilled { k },
+        paths: &[(6, 5)],
+        proved: |k, l| some_filled(l, |l| ffi::plan_filled(k, &l.table, &l.empties, &mut l.list, &mut l.bits, &mut l.work)),
+        plain: &[("one stop at a time", plain_filled_some::<One>), ("two stops at a time", plain_filled_some::<Two>)],
+    },
+    Case {
         name: "cell_plan",
         call: |_| Call::CellPlan { highest: 5 },
         paths: &[(6, 5)],
@@ -113,6 +128,28 @@ fn plain_plan_path<S: Step>(_: u16, l: &mut Lent<Heap>) -> Result<u64, u16> {
     plain_jobs::plan_path::<S>(&l.bytes, 5, &mut l.table, &mut l.order, &mut l.totals, &mut l.pivots).map(|(_, _, total)| total)
 }
 
+/// A list's total, with every stop filled.
+fn all_filled(l: &mut Lent<Heap>, run: impl Fn(&mut Lent<Heap>) -> Result<(u64, usize), u16>) -> Result<u64, u16> {
+    l.empties.fill(0);
+    run(l).map(|(total, _)| total)
+}
+
+/// And with 28 of 64 filled.
+fn some_filled(l: &mut Lent<Heap>, run: impl Fn(&mut Lent<Heap>) -> Result<(u64, usize), u16>) -> Result<u64, u16> {
+    for (i, byte) in l.empties.iter_mut().enumerate() {
+        *byte = u8::from(i * i % 7 > 1);
+    }
+    run(l).map(|(total, _)| total)
+}
+
+fn plain_filled_all<F: Fill>(k: u16, l: &mut Lent<Heap>) -> Result<u64, u16> {
+    all_filled(l, |l| plain_filled::plan_filled::<F>(k, &l.table, &l.empties, &mut l.list, &mut l.bits, &mut l.work))
+}
+
+fn plain_filled_some<F: Fill>(k: u16, l: &mut Lent<Heap>) -> Result<u64, u16> {
+    some_filled(l, |l| plain_filled::plan_filled::<F>(k, &l.table, &l.empties, &mut l.list, &mut l.bits, &mut l.work))
+}
+
 fn plain_cell_plan<S: Step>(_: u16, l: &mut Lent<Heap>) -> Result<u64, u16> {
     value(plain_jobs::cell_plan::<S>(&l.bytes, 5, &mut l.out))
 }
@@ -148,8 +185,8 @@ impl Case {
     }
 }
 
-/// Every case for each of its paths.
-pub fn measure(random: &mut Random) -> Vec<Measured> {
+/// Every case whose name begins so, for each of its paths.
+pub fn measure(random: &mut Random, name: &str) -> Vec<Measured> {
     let each = |case: &Case| -> Vec<Measured> { case.paths.iter().map(|&(k, version)| case.measure(random, k, version)).collect() };
-    CASES.iter().flat_map(each).collect()
+    CASES.iter().filter(|case| case.name.starts_with(name)).flat_map(each).collect()
 }

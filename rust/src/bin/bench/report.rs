@@ -19,7 +19,7 @@ for x86-64 without extensions.";
 const CALLS: &str = "\
 Paths of 2^k stops whose fields take their whole range. `plan_path` leads from path bytes to the order. Plain Rust goes through the records by
 indices or takes them off the front as arrays (chunks); its `cell_check` makes no table and sums the n − 1 moves; the planner's ways are those
-below.";
+below. `plan_filled` weighs one stop's candidates at a time or those of two neighbouring stops together.";
 
 const PLANNER: &str = "\
 `planner::plan` for one table of random entries below 4,000,001 for each k. The paper's order goes through each stop's candidates, 'along rows'
@@ -56,7 +56,7 @@ fn processor() -> String {
 }
 
 /// Every call beside plain Rust.
-fn calls(all: &[cases::Measured]) -> String {
+pub fn calls(all: &[cases::Measured]) -> String {
     let row = |of: &cases::Measured| {
         let ways: Vec<String> = of.plain.iter().map(|(name, time)| format!("{name} {}", figures(*time))).collect();
         let (name, ratio) = (format!("`{}`", of.name), format!("{:.2}", of.proved / of.best()));
