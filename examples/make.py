@@ -1,6 +1,7 @@
 #!/usr/bin/env python3
 """Makes the sample paths of examples/paths: NAME.path is read, and NAME.answer is what the program must write. And the samples of examples/files:
-NAME.order is an order file to be checked against NAME.path, and NAME.result is what the check gives.
+NAME.order is an order file to be checked against NAME.path by a controller that knows versions up to NAME.highest, and NAME.result is what the check
+gives.
 
 The answers of good paths are found by trying every set of forks, which is feasible up to k = 3, or are known for another reason that
 stands beside them. Run it anywhere; it writes beside itself.
@@ -20,9 +21,13 @@ def head(version, k):
     return record(1, struct.pack("<HH", version, k))
 
 
-def stop(version, x, y=0, z=0, speed=100, blend=0):
+def stop(version, x, y=0, z=0, speed=100, blend=0, dwell=0):
     fields = struct.pack("<iiiH", x, y, z, speed)
-    return record(2, fields + (struct.pack("<H", blend) if version == 5 else b""))
+    if version >= 5:
+        fields += struct.pack("<H", blend)
+    if version >= 6:
+        fields += struct.pack("<H", dwell)
+    return record(2, fields)
 
 
 END = record(3, b"")
@@ -39,8 +44,8 @@ def refused(number):
 def time(a, b, stops):
     far = max(abs(stops[b][i] - stops[a][i]) for i in range(3))
     far -= min(stops[b][4], far // 2)
-    # to the nearest whole millisecond, an exact half to the even one: so Python rounds fractions
-    return round(Fraction(100 * far, stops[b][3]))
+    # to the nearest whole millisecond, an exact half to the even one: so Python rounds fractions; then the dwell of the stop where the move arrives
+    return round(Fraction(100 * far, stops[b][3])) + stops[b][5]
 
 
 def order_of(k, forks):
@@ -81,8 +86,8 @@ def wanted(k, stops):
 
 
 def full(stops):
-    """Each stop with y, z, speed and blend."""
-    default = (0, 0, 0, 100, 0)
+    """Each stop with y, z, speed, blend and dwell."""
+    default = (0, 0, 0, 100, 0, 0)
     return [tuple(s) + default[len(s):] for s in stops]
 
 
@@ -96,29 +101,45 @@ CORNER = full([(0,), (10,), (30,), (40, 0, 0, 100, 20)])
 ALIKE = full([(5, 5, 5, 1)] * 64)
 
 
+def dwelling(stops, dwells):
+    return [s[:5] + (dwell,) for s, dwell in zip(stops, dwells)]
+
+
+# a dwell at the stop where the wanted order begins changes nothing, since no move arrives there; one where it ends makes another order the wanted one
+RESTING = {"first": dwelling(FIFTY, (0, 0, 20, 0)), "last": dwelling(FIFTY, (20, 0, 0, 0))}
+SOFT = dwelling(EIGHT, [i * 1733 % 5001 for i in range(8)])
+
+
 def paths():
     """The name of each sample, its bytes and the answer to it."""
     for name, k, stops in [("one", 0, ONE), ("fifty", 2, FIFTY), ("eight", 3, EIGHT)]:
         answer = order_file(k, stops, wanted(k, stops))
         yield f"good-{name}-4", path(4, k, stops), answer
         yield f"good-{name}-5", path(5, k, stops), answer
+        yield f"good-{name}-6", path(6, k, stops), answer
+    for name, stops in RESTING.items():
+        yield f"good-dwell-{name}-6", path(6, 2, stops), order_file(2, stops, wanted(2, stops))
+    yield "good-dwells-6", path(6, 3, SOFT), order_file(3, SOFT, wanted(3, SOFT))
     yield "good-blended-5", path(5, 1, BLENDED), order_file(1, BLENDED, wanted(1, BLENDED))
-    unblended = [stop[:4] + (0,) for stop in CORNER]
+    unblended = full(stop[:4] for stop in CORNER)
     assert order_of(2, wanted(2, CORNER)) == [0, 1, 3, 2] and order_of(2, wanted(2, unblended)) == [3, 2, 1, 0]
     yield "good-corner-5", path(5, 2, CORNER), order_file(2, CORNER, wanted(2, CORNER))
     yield "good-no-corner-5", path(5, 2, unblended), order_file(2, unblended, wanted(2, unblended))
     # all totals are 0, so the smallest stop is in the last place, and so on back: every fork is exchanged
     yield "good-alike-4", path(4, 6, ALIKE), order_file(6, ALIKE, (1 << 64) - 2)
     yield "good-alike-5", path(5, 6, ALIKE), order_file(6, ALIKE, (1 << 64) - 2)
+    yield "good-alike-6", path(6, 6, ALIKE), order_file(6, ALIKE, (1 << 64) - 2)
 
     fifty = path(4, 2, FIFTY)
-    five = path(5, 6, ALIKE)
+    longest = path(6, 6, ALIKE)
     yield "refused-1-empty", b"", refused(1)
     yield "refused-1-three-bytes", fifty[:3], refused(1)
     yield "refused-1-cut-head", fifty[:7], refused(1)
     yield "refused-1-cut-stop", fifty[:-5], refused(1)
     yield "refused-1-no-end", fifty[:-4], refused(1)
     yield "refused-2-stop-of-5", head(4, 0) + stop(5, 1) + END, refused(2)
+    yield "refused-2-stop-of-5-in-6", head(6, 0) + stop(5, 1) + END, refused(2)
+    yield "refused-2-stop-of-6", head(5, 0) + stop(6, 1) + END, refused(2)
     yield "refused-2-head", b"\x08\x00" + fifty[2:], refused(2)
     yield "refused-2-end", fifty[:-4] + b"\x03\x00\x03\x00\x00", refused(2)
     yield "refused-3-kind-9", b"\x06\x00\x09\x00" + fifty[4:], refused(3)
@@ -126,39 +147,49 @@ def paths():
     yield "refused-3-end-early", head(4, 1) + stop(4, 1) + END, refused(3)
     yield "refused-4-version-9", head(9, 0), refused(4)
     yield "refused-4-version-3", path(3, 0, ONE), refused(4)
+    yield "refused-4-version-7", path(7, 0, ONE), refused(4)
     yield "refused-5-k-11", head(4, 11), refused(5)
     yield "refused-5-k-65535", head(5, 65535), refused(5)
     yield "refused-6-speed-0", path(4, 0, [(0, 0, 0, 0, 0)]), refused(6)
     yield "refused-6-x-20001", path(4, 0, [(20001, 0, 0, 1, 0)]), refused(6)
     yield "refused-6-blend-501", path(5, 0, [(0, 0, 0, 1, 501)]), refused(6)
+    yield "refused-6-dwell-5001", path(6, 0, [(0, 0, 0, 1, 0, 5001)]), refused(6)
     yield "refused-7-one-byte", fifty + b"\x00", refused(7)
-    yield "refused-7-after-longest", five + b"\x00", refused(7)
-    yield "refused-7-long", five + bytes(5000), refused(7)
+    yield "refused-7-after-longest", longest + b"\x00", refused(7)
+    yield "refused-7-long", longest + bytes(5000), refused(7)
     yield "refused-8-k-7", path(4, 7, full([(0,)] * 128)), refused(8)
     yield "refused-8-k-10-head", head(5, 10), refused(8)
 
 
 def files():
-    """The name of each sample, its path, its order file and what the check gives."""
+    """The name of each sample, its path, its order file, the highest version known and what the check gives."""
     eight = path(4, 3, EIGHT)
     forks = wanted(3, EIGHT)
-    yield "good-eight", eight, order_file(3, EIGHT, forks), 0
-    yield "good-unturned", eight, order_file(3, EIGHT, 0), 0
+    yield "good-eight", eight, order_file(3, EIGHT, forks), 6, 0
+    yield "good-unturned", eight, order_file(3, EIGHT, 0), 6, 0
     # when times were rounded up, three stops a tenth of a millimetre apart at 200 mm/s took 1 ms each: now they take 0
     near = full([(0, 0, 0, 200), (1, 0, 0, 200), (2, 0, 0, 200), (3, 0, 0, 200)])
-    yield "good-near", path(5, 2, near), order_file(2, near, 0), 0
-    yield "refused-11-rounded-up", path(5, 2, near), order_file(2, near, 0, said=3), -11
+    yield "good-near", path(5, 2, near), order_file(2, near, 0), 6, 0
+    yield "refused-11-rounded-up", path(5, 2, near), order_file(2, near, 0, said=3), 6, -11
+    # one path in each version, for controllers that know versions up to 4, 5 and 6: a newer path is turned down at its head
+    for version in (4, 5, 6):
+        for highest in (4, 5, 6):
+            name = f"good-{version}-for-{highest}" if version <= highest else f"refused-4-{version}-for-{highest}"
+            yield name, path(version, 2, FIFTY), order_file(2, FIFTY, 6), highest, 0 if version <= highest else -4
+    # the dwell of the stop where the order ends counts, that of the stop where it begins does not
+    yield "good-dwell-first", path(6, 2, RESTING["first"]), order_file(2, FIFTY, 6), 6, 0
+    yield "refused-11-dwell-left-out", path(6, 2, RESTING["last"]), order_file(2, FIFTY, 6), 6, -11
 
 
 def main():
-    made = {"paths": (".path", ".answer"), "files": (".path", ".order", ".result")}
+    made = {"paths": (".path", ".answer"), "files": (".path", ".order", ".highest", ".result")}
     for folder, suffixes in made.items():
         os.makedirs(os.path.join(HERE, folder), exist_ok=True)
         for name in os.listdir(os.path.join(HERE, folder)):
             if name.endswith(suffixes):
                 os.remove(os.path.join(HERE, folder, name))
     samples = [("paths", name, contents) for name, *contents in paths()]
-    samples += [("files", name, (given, order, b"%d\n" % result)) for name, given, order, result in files()]
+    samples += [("files", name, (given, order, b"%d\n" % highest, b"%d\n" % result)) for name, given, order, highest, result in files()]
     for folder, name, contents in samples:
         for suffix, content in zip(made[folder], contents):
             with open(os.path.join(HERE, folder, name + suffix), "wb") as out:

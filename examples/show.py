@@ -11,14 +11,14 @@ import sys
 KINDS = {1: "path head", 2: "stop", 3: "end", 4: "order head", 5: "total with stops", 6: "forks exchanged", 7: "refusal"}
 
 # the fields of a stop by version, and the range of each
-STOPS = {4: "<iiiH", 5: "<iiiHH"}
-FIELDS = {"x": (-20000, 20000), "y": (-20000, 20000), "z": (-20000, 20000), "speed": (1, 2000), "blend": (0, 500)}
+STOPS = {4: "<iiiH", 5: "<iiiHH", 6: "<iiiHHH"}
+FIELDS = {"x": (-20000, 20000), "y": (-20000, 20000), "z": (-20000, 20000), "speed": (1, 2000), "blend": (0, 500), "dwell": (0, 5000)}
 
 REFUSALS = {
     1: "fewer than 4 bytes left for a record, or fewer than its length claims",
     2: "length is not that of the kind and version",
     3: "not the kind due here",
-    4: "version not 4 or 5, or above the highest known; highest known not 4 or 5",
+    4: "version not 4, 5 or 6, or above the highest known; highest known not 4, 5 or 6",
     5: "k above 10, or an order file's k not the path's",
     6: "a stop's field out of range",
     7: "bytes after the end record",
@@ -27,7 +27,7 @@ REFUSALS = {
     10: "an order not allowed",
     11: "an order file's total is not its order's",
     12: "a fork bit outside 1 to n−1 set, or bits not the order's",
-    13: "version 4 to be written, a blend not 0",
+    13: "a field not 0 that the version to be written lacks",
 }
 
 

@@ -40,7 +40,7 @@ done
 fifty=examples/paths/good-fifty-4
 for ((i = 1; i <= $(stat -c %s $fifty.path); i++)); do tail -c "+$i" $fifty.path | head -c 1; done | "$program" >"$work/found"
 same "a byte at a time" $fifty.answer
-{ { cat examples/paths/good-alike-5.path; head -c 4000000 /dev/zero; } 2>"$work/noise" || true; } | "$program" >"$work/found"
+{ { cat examples/paths/good-alike-6.path; head -c 4000000 /dev/zero; } 2>"$work/noise" || true; } | "$program" >"$work/found"
 same "megabytes" examples/paths/refused-7-long.answer
 
 echo "$count answers of the program, $failed differ"

@@ -8,7 +8,8 @@
  * length 0 is an empty buffer; a null pointer with any other length is not allowed. A refusal writes nothing. After success the output
  * holds the result first and is untouched beyond. The calls keep no state and need no other memory than about 21 KB of stack.
  *
- * `highest` is the highest version that the controller knows, 4 or 5. k goes up to CELL_MAX_K.
+ * `highest` is the highest version that the controller knows, 4, 5 or 6: a newer path is turned down at its head, by CELL_WRONG_VERSION. k goes
+ * up to CELL_MAX_K.
  */
 #ifndef CELL_H
 #define CELL_H
@@ -27,9 +28,9 @@ extern "C" {
 /* The stops of a path of this k, 0 to CELL_MAX_K. */
 #define CELL_STOPS(k) ((size_t)1 << (k))
 
-/* The bytes of a path of this version, 4 or 5, and k, and of the longest one. */
-#define CELL_PATH_SIZE(version, k) (12 + CELL_STOPS(k) * ((version) == 4 ? 18 : 20))
-#define CELL_MAX_PATH_SIZE 1292
+/* The bytes of a path of this version, 4, 5 or 6, and k, and of the longest one. */
+#define CELL_PATH_SIZE(version, k) (12 + CELL_STOPS(k) * ((version) == 4 ? 18 : (version) == 5 ? 20 : 22))
+#define CELL_MAX_PATH_SIZE 1420
 
 /* The bytes of an order file of this k, and of the longest one. */
 #define CELL_ORDER_FILE_SIZE(k) (26 + 2 * CELL_STOPS(k) + (CELL_STOPS(k) + 7) / 8)
@@ -43,7 +44,7 @@ enum cell_refusal {
     CELL_WRONG_LENGTH = 2,
     /* not the kind due here */
     CELL_WRONG_KIND = 3,
-    /* version not 4 or 5, or above the highest known; highest known not 4 or 5 */
+    /* version not 4, 5 or 6, or above the highest known; highest known not 4, 5 or 6 */
     CELL_WRONG_VERSION = 4,
     /* k above 10, or an order file's k not the path's */
     CELL_WRONG_K = 5,
@@ -61,8 +62,8 @@ enum cell_refusal {
     CELL_WRONG_TOTAL = 11,
     /* a fork bit outside 1 to n-1 set, or bits not the order's */
     CELL_WRONG_FORKS = 12,
-    /* version 4 to be written, a blend not 0 */
-    CELL_LOST_BLEND = 13
+    /* a field not 0 that the version to be written lacks */
+    CELL_LOST_FIELD = 13
 };
 
 /*
@@ -75,9 +76,8 @@ int64_t cell_plan(const uint8_t *path, size_t path_len, uint16_t highest, uint8_
 int64_t cell_check(const uint8_t *path, size_t path_len, uint16_t highest, const uint8_t *file, size_t file_len);
 
 /*
- * Writes a path in another version, 4 or 5, which may be above the highest known: CELL_PATH_SIZE(version, k) bytes. The version, then a
- * blend that version 4 would lose, then the output's length are tested after the path's reading; CELL_MAX_PATH_SIZE bytes are always
- * enough.
+ * Writes a path in another version, 4, 5 or 6, which may be above the highest known: CELL_PATH_SIZE(version, k) bytes. The version, then a
+ * field not 0 that it would lose, then the output's length are tested after the path's reading; CELL_MAX_PATH_SIZE bytes are always enough.
  */
 int64_t cell_rewrite(const uint8_t *path, size_t path_len, uint16_t highest, uint16_t version, uint8_t *out, size_t out_len);
 

@@ -1,6 +1,7 @@
 /*
  * The 50 example by the controller's calls: k = 2, x = 0, 30, 10, 20, speeds 100, rest 0. The path is planned, its order file is checked,
- * and the path is rewritten in version 5 and back; then some refusals. Exits with 1 where an answer differs.
+ * and the path is rewritten in versions 5 and 6 and back; then some refusals, among them a controller that knows only 4 or 5 and is handed a newer
+ * path. Exits with 1 where an answer differs.
  */
 #include "cell.h"
 
@@ -59,7 +60,7 @@ static void plan_and_check(void)
     expect("check with highest 4", cell_check(path, sizeof path, 4, out, (size_t)count), 0);
 
     expect("plan into 34 bytes", cell_plan(path, sizeof path, 5, out, sizeof file - 1), -CELL_WRONG_SIZE);
-    expect("plan for highest 6", cell_plan(path, sizeof path, 6, out, sizeof out), -CELL_WRONG_VERSION);
+    expect("plan for highest 7", cell_plan(path, sizeof path, 7, out, sizeof out), -CELL_WRONG_VERSION);
     expect("plan no bytes", cell_plan(NULL, 0, 5, out, sizeof out), -CELL_TRUNCATED);
     expect("check no file", cell_check(path, sizeof path, 5, NULL, 0), -CELL_TRUNCATED);
     expect_bytes("after refusals", out, file, sizeof file);
@@ -84,17 +85,48 @@ static void rewrite(void)
     expect("rewrite in version 4", cell_rewrite(five, (size_t)count, 5, 4, four, sizeof four), sizeof path);
     expect_bytes("rewrite in version 4", four, path, sizeof path);
 
-    expect("rewrite in version 6", cell_rewrite(path, sizeof path, 5, 6, four, 0), -CELL_WRONG_VERSION);
+    expect("rewrite in version 7", cell_rewrite(path, sizeof path, 5, 7, four, 0), -CELL_WRONG_VERSION);
     expect("rewrite into 91 bytes", cell_rewrite(path, sizeof path, 5, 5, four, 91), -CELL_WRONG_SIZE);
     five[26] = 1;
-    expect("a blend of 1 in version 4", cell_rewrite(five, (size_t)count, 5, 4, four, 0), -CELL_LOST_BLEND);
+    expect("a blend of 1 in version 4", cell_rewrite(five, (size_t)count, 5, 4, four, 0), -CELL_LOST_FIELD);
     expect_bytes("after refusals", four, path, sizeof path);
+}
+
+/* The path in version 6, for controllers that know versions up to 4, 5 and 6. */
+static void newer(void)
+{
+    uint8_t six[CELL_MAX_PATH_SIZE];
+    uint8_t out[CELL_MAX_PATH_SIZE];
+    memset(out, 0xAA, sizeof out);
+    int64_t count = cell_rewrite(path, sizeof path, 4, 6, six, sizeof six);
+    expect("rewrite in version 6", count, CELL_PATH_SIZE(6, 2));
+    expect("the version", six[4], 6);
+    expect("a stop's length", six[8], 20);
+    for (uint16_t highest = 4; highest < 6; highest++) {
+        expect("plan a newer path", cell_plan(six, (size_t)count, highest, out, sizeof out), -CELL_WRONG_VERSION);
+        expect("check by a newer path", cell_check(six, (size_t)count, highest, file, sizeof file), -CELL_WRONG_VERSION);
+        expect("rewrite a newer path", cell_rewrite(six, (size_t)count, highest, 4, out, sizeof out), -CELL_WRONG_VERSION);
+        expect("the head alone", cell_plan(six, 8, highest, out, sizeof out), -CELL_WRONG_VERSION);
+    }
+    expect("after refusals", out[0], 0xAA);
+    expect("the same order", cell_check(six, (size_t)count, 6, file, sizeof file), 0);
+    expect("rewrite in version 4", cell_rewrite(six, (size_t)count, 6, 4, out, sizeof out), sizeof path);
+    expect_bytes("rewrite in version 4", out, path, sizeof path);
+
+    /* a dwell of 1 ms at stop 0, which the order arrives at last */
+    six[28] = 1;
+    expect("a dwell of 1 in version 5", cell_rewrite(six, (size_t)count, 6, 5, out, 0), -CELL_LOST_FIELD);
+    expect("a dwell of 1 in version 4", cell_rewrite(six, (size_t)count, 6, 4, out, 0), -CELL_LOST_FIELD);
+    expect("a dwell of 1 in the total", cell_check(six, (size_t)count, 6, file, sizeof file), -CELL_WRONG_TOTAL);
+    expect("a dwell of 1 in version 6", cell_rewrite(six, (size_t)count, 6, 6, out, sizeof out), count);
+    expect_bytes("a dwell of 1 in version 6", out, six, (size_t)count);
 }
 
 int main(void)
 {
     plan_and_check();
     rewrite();
+    newer();
     if (failures != 0) {
         return 1;
     }

@@ -1,5 +1,5 @@
 /*
- * The stack of the controller's calls at k = 6, as the last part of docs/BENCHMARK.md: 64 stops from a fixed seed in version 5. A call's stack
+ * The stack of the controller's calls at k = 6, as the last part of docs/BENCHMARK.md: 64 stops from a fixed seed in version 6. A call's stack
  * is that of a thread whose stack was filled with a pattern, less that of a thread which calls nothing.
  */
 #define _POSIX_C_SOURCE 200809L
@@ -28,22 +28,22 @@ static uint8_t *put(uint8_t *at, uint32_t number, int width)
 static void make_path(void)
 {
     uint32_t seed = 1;
-    uint8_t *at = put(put(put(put(path, 6, 2), 1, 2), 5, 2), CELL_MAX_K, 2);
+    uint8_t *at = put(put(put(put(path, 6, 2), 1, 2), 6, 2), CELL_MAX_K, 2);
     for (int i = 0; i < CELL_MAX_STOPS; i++) {
-        at = put(put(at, 18, 2), 2, 2);
+        at = put(put(at, 20, 2), 2, 2);
         for (int axis = 0; axis < 3; axis++) {
             seed = seed * 1664525 + 1013904223;
             at = put(at, (seed >> 8) % 40001 - 20000, 4);
         }
-        at = put(put(at, 100 + (uint32_t)i, 2), (uint32_t)i, 2);
+        at = put(put(put(at, 100 + (uint32_t)i, 2), (uint32_t)i, 2), 50 * (uint32_t)i, 2);
     }
     put(put(at, 2, 2), 3, 2);
 }
 
 static int64_t nothing(void) { return 0; }
-static int64_t plan(void) { return cell_plan(path, sizeof path, 5, file, sizeof file); }
-static int64_t check(void) { return cell_check(path, sizeof path, 5, file, sizeof file); }
-static int64_t rewrite(void) { return cell_rewrite(path, sizeof path, 5, 5, other, sizeof other); }
+static int64_t plan(void) { return cell_plan(path, sizeof path, 6, file, sizeof file); }
+static int64_t check(void) { return cell_check(path, sizeof path, 6, file, sizeof file); }
+static int64_t rewrite(void) { return cell_rewrite(path, sizeof path, 6, 6, other, sizeof other); }
 
 struct job {
     int64_t (*call)(void);
@@ -84,7 +84,7 @@ int main(void)
     struct job none = {nothing, 0};
     make_path();
     size_t least = stack_of(&none);
-    printf("\n## The stack of the controller's calls\n\nAt k = 6 and version 5: the bytes beyond those of a thread that calls nothing.\n\n");
+    printf("\n## The stack of the controller's calls\n\nAt k = 6 and version 6: the bytes beyond those of a thread that calls nothing.\n\n");
     printf("| call | result | bytes of stack |\n|---|---|---|\n");
     for (int i = 0; i < 3; i++) {
         size_t stack = stack_of(&jobs[i]) - least;

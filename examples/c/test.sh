@@ -13,7 +13,7 @@ target/c/fifty
 count=0
 for due in examples/files/*.result; do
     sample=${due%.result}
-    found=$(target/c/check "$sample.path" "$sample.order")
+    found=$(target/c/check "$sample.path" "$sample.order" "$(cat "$sample.highest")")
     if [ "$found" != "$(cat "$due")" ]; then
         echo "$sample: $found, not $(cat "$due")"
         exit 1

@@ -3,7 +3,7 @@
 use crate::{
     ffi,
     guard::{Against, Guarded},
-    reading,
+    reading::{self, Stop},
 };
 use std::ops::DerefMut;
 
@@ -38,6 +38,7 @@ pub struct Lent<R: Room> {
     pub coords: R::Of<i32>,
     pub speeds: R::Of<u16>,
     pub blends: R::Of<u16>,
+    pub dwells: R::Of<u16>,
     pub table: R::Of<u32>,
     pub order: R::Of<u16>,
     pub totals: R::Of<u64>,
@@ -58,6 +59,7 @@ impl<R: Room> Lent<R> {
             coords: room.hold(&self.coords),
             speeds: room.hold(&self.speeds),
             blends: room.hold(&self.blends),
+            dwells: room.hold(&self.dwells),
             table: room.hold(&self.table),
             order: room.hold(&self.order),
             totals: room.hold(&self.totals),
@@ -78,6 +80,7 @@ impl<R: Room> Lent<R> {
             ("coords", *self.coords == *other.coords),
             ("speeds", *self.speeds == *other.speeds),
             ("blends", *self.blends == *other.blends),
+            ("dwells", *self.dwells == *other.dwells),
             ("table", *self.table == *other.table),
             ("order", *self.order == *other.order),
             ("totals", *self.totals == *other.totals),
@@ -131,9 +134,9 @@ fn signed(result: i64) -> Answer {
 }
 
 /// 0 and the stop's fields, or 1 for the end.
-fn drawn(stop: Option<reading::Stop>) -> Vec<i64> {
+fn drawn(stop: Option<Stop>) -> Vec<i64> {
     match stop {
-        Some(stop) => vec![0, stop.at[0].into(), stop.at[1].into(), stop.at[2].into(), stop.speed.into(), stop.blend.into()],
+        Some(Stop { at: [x, y, z], speed, blend, dwell }) => vec![0, x.into(), y.into(), z.into(), speed.into(), blend.into(), dwell.into()],
         None => vec![1],
     }
 }
@@ -142,10 +145,16 @@ fn drawn(stop: Option<reading::Stop>) -> Vec<i64> {
 macro_rules! made_to {
     ($module:ident, $call:expr, $l:ident) => {
         match $call {
-            Call::ReadPath { highest } => $module::read_path(&$l.bytes, highest, &mut $l.coords, &mut $l.speeds, &mut $l.blends)
-                .map(|(version, k)| vec![version.into(), k.into()]),
-            Call::WritePath { version, k } => $module::write_path(version, k, &$l.coords, &$l.speeds, &$l.blends, &mut $l.out).map(one),
-            Call::MakeTable { k } => $module::make_table(k, &$l.coords, &$l.speeds, &$l.blends, &mut $l.table).map(|()| vec![]),
+            Call::ReadPath { highest } => {
+                $module::read_path(&$l.bytes, highest, &mut $l.coords, &mut $l.speeds, &mut $l.blends, &mut $l.dwells)
+                    .map(|(version, k)| vec![version.into(), k.into()])
+            }
+            Call::WritePath { version, k } => {
+                $module::write_path(version, k, &$l.coords, &$l.speeds, &$l.blends, &$l.dwells, &mut $l.out).map(one)
+            }
+            Call::MakeTable { k } => {
+                $module::make_table(k, &$l.coords, &$l.speeds, &$l.blends, &$l.dwells, &mut $l.table).map(|()| vec![])
+            }
             Call::Plan { k } => $module::plan(k, &$l.table, &mut $l.order, &mut $l.totals, &mut $l.pivots).map(one),
             Call::PlanPath { highest } => {
                 $module::plan_path(&$l.bytes, highest, &mut $l.table, &mut $l.order, &mut $l.totals, &mut $l.pivots)

@@ -5,8 +5,8 @@ use crate::{
     random::Random,
 };
 
-/// Numbers at and beside the limits of document 01.
-const EDGES: [u16; 20] = [0, 1, 2, 3, 4, 5, 6, 7, 8, 10, 11, 63, 64, 500, 501, 2_000, 2_001, 32_768, 65_534, 65_535];
+/// Numbers at and beside the limits of the documents.
+const EDGES: [u16; 22] = [0, 1, 2, 3, 4, 5, 6, 7, 8, 10, 11, 63, 64, 500, 501, 2_000, 2_001, 5_000, 5_001, 32_768, 65_534, 65_535];
 const WIDE_EDGES: [i32; 8] = [20_000, 20_001, -20_000, -20_001, 0, -1, i32::MIN, i32::MAX];
 
 /// One of some numbers.
@@ -101,7 +101,7 @@ fn another_length<T: Copy + Default>(random: &mut Random, needed: usize, numbers
 /// One lent buffer of another length.
 fn spoil_length(random: &mut Random, lent: &mut Lent<Heap>) {
     let n = lent.table.len().isqrt();
-    match random.below(11) {
+    match random.below(12) {
         0 => another_length(random, 3 * n, &mut lent.coords),
         1 => another_length(random, n, &mut lent.speeds),
         2 => another_length(random, n, &mut lent.blends),
@@ -112,6 +112,7 @@ fn spoil_length(random: &mut Random, lent: &mut Lent<Heap>) {
         7 => another_length(random, n, &mut lent.list),
         8 => another_length(random, n, &mut lent.empties),
         9 => another_length(random, n * n, &mut lent.work),
+        10 => another_length(random, n, &mut lent.dwells),
         _ => another_length(random, n.div_ceil(8), &mut lent.bits),
     }
 }
@@ -143,19 +144,19 @@ fn put_at<T>(random: &mut Random, numbers: &mut [T], number: T) {
     }
 }
 
-/// Another content of a lent input: a stop's field, a stop of the order, two of them exchanged, a byte that says what is
-/// empty, a fork bit. In an output it changes the
-/// pattern alone.
+/// Another content of a lent input: a stop's field, a stop of the order, two of them exchanged, a byte that says what is empty, a fork bit. In an
+/// output it changes the pattern alone.
 fn spoil_content(random: &mut Random, lent: &mut Lent<Heap>) {
     let (edge, wide) = (one_of(random, &EDGES), one_of(random, &WIDE_EDGES));
     let n = lent.order.len();
-    match random.below(7) {
+    match random.below(8) {
         0 => put_at(random, &mut lent.coords, wide),
         1 => put_at(random, &mut lent.speeds, edge),
         2 => put_at(random, &mut lent.blends, edge),
-        3 => put_at(random, &mut lent.order, edge),
-        4 => put_at(random, &mut lent.empties, edge as u8),
-        5 if n > 0 => lent.order.swap(place(random, n), place(random, n)),
+        3 => put_at(random, &mut lent.dwells, edge),
+        4 => put_at(random, &mut lent.order, edge),
+        5 => put_at(random, &mut lent.empties, edge as u8),
+        6 if n > 0 => lent.order.swap(place(random, n), place(random, n)),
         _ => put_at(random, &mut lent.bits, 1 << (edge % 8)),
     }
 }

@@ -12,15 +12,18 @@ mod declared {
         pub fn ffi_read_path(
             bytes: *const u8, bytes_len: usize, highest: u16,
             coords: *mut i32, coords_len: usize, speeds: *mut u16, speeds_len: usize, blends: *mut u16, blends_len: usize,
+            dwells: *mut u16, dwells_len: usize,
         ) -> i64;
         pub fn ffi_write_path(
             version: u16, k: u16,
             coords: *const i32, coords_len: usize, speeds: *const u16, speeds_len: usize, blends: *const u16, blends_len: usize,
+            dwells: *const u16, dwells_len: usize,
             out: *mut u8, out_len: usize,
         ) -> i64;
         pub fn ffi_make_table(
             k: u16,
             coords: *const i32, coords_len: usize, speeds: *const u16, speeds_len: usize, blends: *const u16, blends_len: usize,
+            dwells: *const u16, dwells_len: usize,
             table: *mut u32, table_len: usize,
         ) -> i64;
         pub fn ffi_plan(
@@ -76,27 +79,51 @@ fn unpacked(value: u64) -> (u64, u16, u16) {
 }
 
 /// `path::read_path`: version and k.
-pub fn read_path(bytes: &[u8], highest: u16, coords: &mut [i32], speeds: &mut [u16], blends: &mut [u16]) -> Result<(u16, u16), u16> {
-    let (coords_len, speeds_len, blends_len) = (coords.len(), speeds.len(), blends.len());
-    let (coords, speeds, blends) = (coords.as_mut_ptr(), speeds.as_mut_ptr(), blends.as_mut_ptr());
-    let result = unsafe { declared::ffi_read_path(bytes.as_ptr(), bytes.len(), highest, coords, coords_len, speeds, speeds_len, blends, blends_len) };
+pub fn read_path(
+    bytes: &[u8],
+    highest: u16,
+    coords: &mut [i32],
+    speeds: &mut [u16],
+    blends: &mut [u16],
+    dwells: &mut [u16],
+) -> Result<(u16, u16), u16> {
+    let (coords_len, speeds_len, blends_len, dwells_len) = (coords.len(), speeds.len(), blends.len(), dwells.len());
+    let (coords, speeds, blends, dwells) = (coords.as_mut_ptr(), speeds.as_mut_ptr(), blends.as_mut_ptr(), dwells.as_mut_ptr());
+    #[rustfmt::skip]
+    let result = unsafe {
+        declared::ffi_read_path(
+            bytes.as_ptr(), bytes.len(), highest, coords, coords_len, speeds, speeds_len, blends, blends_len, dwells, dwells_len,
+        )
+    };
     answer(result).map(unpacked).map(|(_, version, k)| (version, k))
 }
 
 /// `path::write_path`: the count of bytes written.
-pub fn write_path(version: u16, k: u16, coords: &[i32], speeds: &[u16], blends: &[u16], out: &mut [u8]) -> Result<u64, u16> {
-    let (coords_len, speeds_len, blends_len) = (coords.len(), speeds.len(), blends.len());
-    let (coords, speeds, blends) = (coords.as_ptr(), speeds.as_ptr(), blends.as_ptr());
+pub fn write_path(version: u16, k: u16, coords: &[i32], speeds: &[u16], blends: &[u16], dwells: &[u16], out: &mut [u8]) -> Result<u64, u16> {
+    let (coords_len, speeds_len, blends_len, dwells_len) = (coords.len(), speeds.len(), blends.len(), dwells.len());
+    let (coords, speeds, blends, dwells) = (coords.as_ptr(), speeds.as_ptr(), blends.as_ptr(), dwells.as_ptr());
     let (out, out_len) = (out.as_mut_ptr(), out.len());
-    answer(unsafe { declared::ffi_write_path(version, k, coords, coords_len, speeds, speeds_len, blends, blends_len, out, out_len) })
+    #[rustfmt::skip]
+    let result = unsafe {
+        declared::ffi_write_path(
+            version, k, coords, coords_len, speeds, speeds_len, blends, blends_len, dwells, dwells_len, out, out_len,
+        )
+    };
+    answer(result)
 }
 
 /// `times::make_table`.
-pub fn make_table(k: u16, coords: &[i32], speeds: &[u16], blends: &[u16], table: &mut [u32]) -> Result<(), u16> {
-    let (coords_len, speeds_len, blends_len) = (coords.len(), speeds.len(), blends.len());
-    let (coords, speeds, blends) = (coords.as_ptr(), speeds.as_ptr(), blends.as_ptr());
+pub fn make_table(k: u16, coords: &[i32], speeds: &[u16], blends: &[u16], dwells: &[u16], table: &mut [u32]) -> Result<(), u16> {
+    let (coords_len, speeds_len, blends_len, dwells_len) = (coords.len(), speeds.len(), blends.len(), dwells.len());
+    let (coords, speeds, blends, dwells) = (coords.as_ptr(), speeds.as_ptr(), blends.as_ptr(), dwells.as_ptr());
     let (table, table_len) = (table.as_mut_ptr(), table.len());
-    done(unsafe { declared::ffi_make_table(k, coords, coords_len, speeds, speeds_len, blends, blends_len, table, table_len) })
+    #[rustfmt::skip]
+    let result = unsafe {
+        declared::ffi_make_table(
+            k, coords, coords_len, speeds, speeds_len, blends, blends_len, dwells, dwells_len, table, table_len,
+        )
+    };
+    done(result)
 }
 
 /// `planner::plan`: the total of the order that was written.
@@ -182,10 +209,10 @@ pub fn draw_number(bytes: &[u8], highest: u16, d: usize) -> Result<Option<Stop>,
     let verdict = answer(unsafe { declared::ffi_draw(bytes.as_ptr(), bytes.len(), highest, d) });
     if verdict == Ok(0) {
         let at = [0, 1, 2].map(|axis| i32::try_from(field(axis)).expect("a coordinate has 32 bits"));
-        let [speed, blend] = [3, 4].map(|place| u16::try_from(field(place)).expect("a speed or a blend has 16 bits"));
-        return Ok(Some(Stop { at, speed, blend }));
+        let [speed, blend, dwell] = [3, 4, 5].map(|place| u16::try_from(field(place)).expect("a speed, a blend or a dwell has 16 bits"));
+        return Ok(Some(Stop { at, speed, blend, dwell }));
     }
-    assert!((0..5).all(|place| field(place) == 0), "a field beside the end or a refusal");
+    assert!((0..6).all(|place| field(place) == 0), "a field beside the end or a refusal");
     verdict.map(|value| {
         assert_eq!(value, 1, "the end");
         None

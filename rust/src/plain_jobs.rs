@@ -10,7 +10,7 @@ use crate::{
 };
 
 /// What the arrays of stops hold at first.
-const NOWHERE: Stop = Stop { at: [0; 3], speed: 0, blend: 0 };
+const NOWHERE: Stop = Stop { at: [0; 3], speed: 0, blend: 0, dwell: 0 };
 
 /// Path bytes to the wanted order: version, k and the total.
 pub fn plan_path<S: Step>(
@@ -74,6 +74,7 @@ fn check_job<W: Way>(path: &[u8], highest: u16, file: &[u8]) -> Result<usize, u1
     let order = &mut order[..n];
     let said = read_file(k, file, order)?;
     let stop = |place: u16| &stops[usize::from(place)];
+    // an allowed order has no stop twice, so every move leads to another stop
     let total: u64 = order.windows(2).map(|pair| u64::from(move_time(stop(pair[0]), stop(pair[1])))).sum();
     if total != said {
         return Err(11);

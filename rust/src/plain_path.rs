@@ -26,29 +26,36 @@ pub(crate) fn record(bytes: &[u8], at: usize, kind: u16, length: usize) -> Resul
 fn stop(content: &[u8], version: u16) -> Stop {
     let wide = |at: usize| i32::from_le_bytes([content[at], content[at + 1], content[at + 2], content[at + 3]]);
     let two = |at: usize| u16::from_le_bytes([content[at], content[at + 1]]);
-    Stop { at: [wide(0), wide(4), wide(8)], speed: two(12), blend: if version == 5 { two(14) } else { 0 } }
+    let since = |first: u16, at: usize| if version < first { 0 } else { two(at) };
+    Stop { at: [wide(0), wide(4), wide(8)], speed: two(12), blend: since(5, 14), dwell: since(6, 16) }
 }
 
 /// Whether every field is in range.
 #[inline(always)]
 pub(crate) fn in_range(stop: &Stop) -> bool {
-    stop.at.iter().all(|x| (-20_000..=20_000).contains(x)) && (1..=2_000).contains(&stop.speed) && stop.blend <= 500
+    stop.at.iter().all(|x| (-20_000..=20_000).contains(x)) && (1..=2_000).contains(&stop.speed) && stop.blend <= 500 && stop.dwell <= 5_000
 }
 
 /// The length of a stop's record.
 #[inline(always)]
 fn stop_length(version: u16) -> usize {
-    if version == 5 {
-        18
-    } else {
-        16
+    match version {
+        4 => 16,
+        5 => 18,
+        _ => 20,
     }
+}
+
+/// Whether a version is known.
+#[inline(always)]
+fn known(version: u16) -> bool {
+    (4..=6).contains(&version)
 }
 
 /// The version and k of a path's head.
 #[inline(always)]
 fn head(bytes: &[u8], highest: u16) -> Result<(u16, u16), u16> {
-    if highest != 4 && highest != 5 {
+    if !known(highest) {
         return Err(4);
     }
     let head = record(bytes, 0, 1, 6)?;
@@ -74,8 +81,8 @@ pub(crate) fn end(bytes: &[u8], at: usize) -> Result<(), u16> {
 
 /// Whether lent buffers have room for n stops.
 #[inline(always)]
-pub(crate) fn stops_fit(n: usize, coords: &[i32], speeds: &[u16], blends: &[u16]) -> bool {
-    coords.len() >= 3 * n && speeds.len() >= n && blends.len() >= n
+pub(crate) fn stops_fit(n: usize, coords: &[i32], speeds: &[u16], blends: &[u16], dwells: &[u16]) -> bool {
+    coords.len() >= 3 * n && speeds.len() >= n && blends.len() >= n && dwells.len() >= n
 }
 
 /// How the stops of a path are gone through, behind its head.
@@ -84,7 +91,7 @@ pub trait Way {
     fn judge(bytes: &[u8], version: u16, n: usize, each: impl FnMut(usize, Stop)) -> Result<(), u16>;
 
     /// Stores the stops of a judged path in lent buffers that have room.
-    fn store(bytes: &[u8], version: u16, n: usize, coords: &mut [i32], speeds: &mut [u16], blends: &mut [u16]);
+    fn store(bytes: &[u8], version: u16, n: usize, coords: &mut [i32], speeds: &mut [u16], blends: &mut [u16], dwells: &mut [u16]);
 }
 
 /// By indices.
@@ -105,12 +112,13 @@ impl Way for Indices {
     }
 
     #[inline(always)]
-    fn store(bytes: &[u8], version: u16, n: usize, coords: &mut [i32], speeds: &mut [u16], blends: &mut [u16]) {
+    fn store(bytes: &[u8], version: u16, n: usize, coords: &mut [i32], speeds: &mut [u16], blends: &mut [u16], dwells: &mut [u16]) {
         for i in 0..n {
             let stop = stop(&bytes[12 + i * (2 + stop_length(version))..], version);
             coords[3 * i..3 * i + 3].copy_from_slice(&stop.at);
             speeds[i] = stop.speed;
             blends[i] = stop.blend;
+            dwells[i] = stop.dwell;
         }
     }
 }
@@ -118,10 +126,10 @@ impl Way for Indices {
 /// By chunks.
 pub struct Chunks;
 
-/// The stop of a record of SIZE bytes, 18 in version 4 and 20 in version 5.
+/// The stop of a record of SIZE bytes: 18 in version 4, 20 in version 5, 22 in version 6.
 #[inline(always)]
 fn stop_in<const SIZE: usize>(record: &[u8; SIZE]) -> Stop {
-    stop(&record[4..], if SIZE == 20 { 5 } else { 4 })
+    stop(&record[4..], 4 + (SIZE as u16 - 18) / 2)
 }
 
 #[inline(always)]
@@ -141,50 +149,65 @@ fn judge<const SIZE: usize>(bytes: &[u8], n: usize, mut each: impl FnMut(usize, 
 }
 
 #[inline(always)]
-fn store<const SIZE: usize>(bytes: &[u8], coords: &mut [[i32; 3]], speeds: &mut [u16], blends: &mut [u16]) {
+fn store<const SIZE: usize>(bytes: &[u8], coords: &mut [[i32; 3]], speeds: &mut [u16], blends: &mut [u16], dwells: &mut [u16]) {
     let records = bytes[8..].as_chunks::<SIZE>().0;
-    for (((record, at), speed), blend) in records.iter().zip(coords).zip(speeds).zip(blends) {
+    for ((((record, at), speed), blend), dwell) in records.iter().zip(coords).zip(speeds).zip(blends).zip(dwells) {
         let stop = stop_in(record);
-        (*at, *speed, *blend) = (stop.at, stop.speed, stop.blend);
+        (*at, *speed, *blend, *dwell) = (stop.at, stop.speed, stop.blend, stop.dwell);
     }
 }
 
 impl Way for Chunks {
     #[inline(always)]
     fn judge(bytes: &[u8], version: u16, n: usize, each: impl FnMut(usize, Stop)) -> Result<(), u16> {
-        if version == 5 {
-            judge::<20>(bytes, n, each)
-        } else {
-            judge::<18>(bytes, n, each)
+        match version {
+            4 => judge::<18>(bytes, n, each),
+            5 => judge::<20>(bytes, n, each),
+            _ => judge::<22>(bytes, n, each),
         }
     }
 
     #[inline(always)]
-    fn store(bytes: &[u8], version: u16, n: usize, coords: &mut [i32], speeds: &mut [u16], blends: &mut [u16]) {
-        let (coords, speeds, blends) = (&mut coords.as_chunks_mut::<3>().0[..n], &mut speeds[..n], &mut blends[..n]);
-        if version == 5 {
-            store::<20>(bytes, coords, speeds, blends);
-        } else {
-            store::<18>(bytes, coords, speeds, blends);
+    fn store(bytes: &[u8], version: u16, n: usize, coords: &mut [i32], speeds: &mut [u16], blends: &mut [u16], dwells: &mut [u16]) {
+        let (coords, speeds) = (&mut coords.as_chunks_mut::<3>().0[..n], &mut speeds[..n]);
+        let (blends, dwells) = (&mut blends[..n], &mut dwells[..n]);
+        match version {
+            4 => store::<18>(bytes, coords, speeds, blends, dwells),
+            5 => store::<20>(bytes, coords, speeds, blends, dwells),
+            _ => store::<22>(bytes, coords, speeds, blends, dwells),
         }
     }
 }
 
 /// Reads a path into lent buffers.
-pub fn read<W: Way>(bytes: &[u8], highest: u16, coords: &mut [i32], speeds: &mut [u16], blends: &mut [u16]) -> Result<(u16, u16), u16> {
+pub fn read<W: Way>(
+    bytes: &[u8],
+    highest: u16,
+    coords: &mut [i32],
+    speeds: &mut [u16],
+    blends: &mut [u16],
+    dwells: &mut [u16],
+) -> Result<(u16, u16), u16> {
     let (version, k) = head(bytes, highest)?;
     let n = 1usize << k;
-    if !stops_fit(n, coords, speeds, blends) {
+    if !stops_fit(n, coords, speeds, blends, dwells) {
         return Err(8);
     }
     W::judge(bytes, version, n, |_, _| ())?;
-    W::store(bytes, version, n, coords, speeds, blends);
+    W::store(bytes, version, n, coords, speeds, blends, dwells);
     Ok((version, k))
 }
 
 /// Reads a path into lent buffers, by indices.
-pub fn read_path(bytes: &[u8], highest: u16, coords: &mut [i32], speeds: &mut [u16], blends: &mut [u16]) -> Result<(u16, u16), u16> {
-    read::<Indices>(bytes, highest, coords, speeds, blends)
+pub fn read_path(
+    bytes: &[u8],
+    highest: u16,
+    coords: &mut [i32],
+    speeds: &mut [u16],
+    blends: &mut [u16],
+    dwells: &mut [u16],
+) -> Result<(u16, u16), u16> {
+    read::<Indices>(bytes, highest, coords, speeds, blends, dwells)
 }
 
 /// Reads a path into the caller's own stops, which may be written before the whole is judged. `fit` tests what was lent, directly after k.
@@ -211,18 +234,22 @@ fn write_stops<const SIZE: usize>(stops: &[Stop], out: &mut [u8]) {
             record[4 + 4 * axis..8 + 4 * axis].copy_from_slice(&x.to_le_bytes());
         }
         record[16..18].copy_from_slice(&stop.speed.to_le_bytes());
-        if SIZE == 20 {
+        if SIZE >= 20 {
             record[18..20].copy_from_slice(&stop.blend.to_le_bytes());
+        }
+        if SIZE >= 22 {
+            record[20..22].copy_from_slice(&stop.dwell.to_le_bytes());
         }
     }
 }
 
 /// Writes 2^k good stops as a path: 4 for the version, 13, and 8 for the output. Gives the count of bytes.
 pub(crate) fn write_path(version: u16, k: u16, stops: &[Stop], out: &mut [u8]) -> Result<usize, u16> {
-    if version != 4 && version != 5 {
+    if !known(version) {
         return Err(4);
     }
-    if version == 4 && stops.iter().any(|stop| stop.blend != 0) {
+    let lost = |stop: &Stop| version < 5 && stop.blend != 0 || version < 6 && stop.dwell != 0;
+    if stops.iter().any(lost) {
         return Err(13);
     }
     let size = 8 + stops.len() * (2 + stop_length(version)) + 4;
@@ -232,10 +259,10 @@ pub(crate) fn write_path(version: u16, k: u16, stops: &[Stop], out: &mut [u8]) -
     for (place, number) in head.as_chunks_mut::<2>().0.iter_mut().zip([6, 1, version, k]) {
         *place = number.to_le_bytes();
     }
-    if version == 5 {
-        write_stops::<20>(stops, body);
-    } else {
-        write_stops::<18>(stops, body);
+    match version {
+        4 => write_stops::<18>(stops, body),
+        5 => write_stops::<20>(stops, body),
+        _ => write_stops::<22>(stops, body),
     }
     end.copy_from_slice(&[2, 0, 3, 0]);
     Ok(size)

@@ -16,6 +16,7 @@ pub struct World {
     pub coords: Vec<i32>,
     pub speeds: Vec<u16>,
     pub blends: Vec<u16>,
+    pub dwells: Vec<u16>,
     pub path: Vec<u8>,
     pub table: Vec<u32>,
     pub order: Vec<u16>,
@@ -25,7 +26,7 @@ pub struct World {
 
 /// The bytes of a path of n stops.
 pub fn path_length(version: u16, n: usize) -> usize {
-    12 + n * if version == 5 { 20 } else { 18 }
+    12 + n * (18 + 2 * usize::from(version - 4))
 }
 
 /// The bytes of the order file of n stops.
@@ -39,6 +40,12 @@ fn pattern<T>(random: &mut Random, needed: usize, number: impl Fn(u64) -> T) -> 
     (0..needed + more).map(|_| number(random.next())).collect()
 }
 
+/// A field of n stops that paths have from version `since` on: numbers below `limit`, and 0 in an older version.
+fn later_field(random: &mut Random, n: usize, version: u16, since: u16, limit: u64) -> Vec<u16> {
+    let limit = if version < since { 1 } else { limit };
+    (0..n).map(|_| random.below(limit) as u16).collect()
+}
+
 /// What the planner is lent: a table, and an order and work space of these lengths, filled with a pattern. The other buffers are empty.
 pub fn planner_lent(random: &mut Random, table: &[u32], order: usize, totals: usize, pivots: usize) -> Lent<Heap> {
     Lent {
@@ -47,6 +54,7 @@ pub fn planner_lent(random: &mut Random, table: &[u32], order: usize, totals: us
         coords: vec![],
         speeds: vec![],
         blends: vec![],
+        dwells: vec![],
         table: table.to_vec(),
         order: (0..order).map(|_| random.next() as u16).collect(),
         totals: (0..totals).map(|_| random.next()).collect(),
@@ -70,14 +78,17 @@ impl World {
     /// A world of 2^k stops. Small ranges give equal times, and so many equal totals.
     pub fn any(random: &mut Random, k: u16) -> World {
         let n = 1usize << k;
-        let version = 4 + random.below(2) as u16;
+        let version = 4 + random.below(3) as u16;
         let reach = [1, 3, 40, 20_000][random.below(4) as usize];
         let coords = (0..3 * n).map(|_| random.below(2 * reach + 1) as i32 - reach as i32).collect();
         let fastest = [1, 3, 2_000][random.below(3) as usize];
         let speeds = (0..n).map(|_| 1 + random.below(fastest) as u16).collect();
-        let most = if version == 5 { 501 } else { 1 };
-        let blends = (0..n).map(|_| random.below(most) as u16).collect();
-        World::of(random, k, version, coords, speeds, blends)
+        // where every blend or every dwell is 0, the path can be rewritten in a version that lacks the field
+        let blends_below = [1, 501][random.below(2) as usize];
+        let blends = later_field(random, n, version, 5, blends_below);
+        let dwells_below = [1, 2, 40, 5_001][random.below(4) as usize];
+        let dwells = later_field(random, n, version, 6, dwells_below);
+        World::of(random, k, version, coords, speeds, blends, dwells)
     }
 
     /// A world whose stops take their whole range, with the table of their travel times: what the benchmark measures.
@@ -85,36 +96,36 @@ impl World {
         let n = 1usize << k;
         let coords = (0..3 * n).map(|_| random.below(40_001) as i32 - 20_000).collect();
         let speeds = (0..n).map(|_| 1 + random.below(2_000) as u16).collect();
-        let most = if version == 5 { 501 } else { 1 };
-        let blends = (0..n).map(|_| random.below(most) as u16).collect();
-        let mut world = World::of(random, k, version, coords, speeds, blends);
-        reading::make_table(k, &world.coords, &world.speeds, &world.blends, &mut world.table).expect("good stops");
+        let blends = later_field(random, n, version, 5, 501);
+        let dwells = later_field(random, n, version, 6, 5_001);
+        let mut world = World::of(random, k, version, coords, speeds, blends, dwells);
+        reading::make_table(k, &world.coords, &world.speeds, &world.blends, &world.dwells, &mut world.table).expect("good stops");
         reading::write_order_file(k, &world.order, &world.table, &mut world.file).expect("an allowed order");
         world
     }
 
     /// The world of some good stops.
-    fn of(random: &mut Random, k: u16, version: u16, coords: Vec<i32>, speeds: Vec<u16>, blends: Vec<u16>) -> World {
+    fn of(random: &mut Random, k: u16, version: u16, coords: Vec<i32>, speeds: Vec<u16>, blends: Vec<u16>, dwells: Vec<u16>) -> World {
         let n = 1usize << k;
         let mut path = vec![0; path_length(version, n)];
-        reading::write_path(version, k, &coords, &speeds, &blends, &mut path).expect("good stops");
+        reading::write_path(version, k, &coords, &speeds, &blends, &dwells, &mut path).expect("good stops");
         let mut table = any_table(random, k.into());
         if random.below(2) == 0 {
-            reading::make_table(k, &coords, &speeds, &blends, &mut table).expect("good stops");
+            reading::make_table(k, &coords, &speeds, &blends, &dwells, &mut table).expect("good stops");
         }
         let order = order_of(k.into(), &any_set(random, k.into()));
         let mut bits = vec![0; n.div_ceil(8)];
         reading::fork_bits(k, &order, &mut bits).expect("an allowed order");
         let mut file = vec![0; file_length(n)];
         reading::write_order_file(k, &order, &table, &mut file).expect("an allowed order");
-        World { k, version, coords, speeds, blends, path, table, order, bits, file }
+        World { k, version, coords, speeds, blends, dwells, path, table, order, bits, file }
     }
 
     /// Each call once, with numbers that suit this world.
     pub fn calls(&self, random: &mut Random) -> [Call; 16] {
         let k = self.k;
-        let highest = if self.version == 5 || random.below(2) == 0 { 5 } else { 4 };
-        let version = 4 + random.below(2) as u16;
+        let highest = self.version + random.below(u64::from(7 - self.version)) as u16;
+        let version = 4 + random.below(3) as u16;
         let d = random.below((1 << k) + 3) as usize;
         [
             Call::ReadPath { highest },
@@ -150,6 +161,7 @@ impl World {
             coords: pattern(random, 3 * n, |x| x as i32),
             speeds: pattern(random, n, |x| x as u16),
             blends: pattern(random, n, |x| x as u16),
+            dwells: pattern(random, n, |x| x as u16),
             table: (0..n * n).map(|_| random.next() as u32).collect(),
             order: pattern(random, n, |x| x as u16),
             totals: pattern(random, 2 * n, |x| x),
@@ -164,6 +176,7 @@ impl World {
             lent.coords[..3 * n].copy_from_slice(&self.coords);
             lent.speeds[..n].copy_from_slice(&self.speeds);
             lent.blends[..n].copy_from_slice(&self.blends);
+            lent.dwells[..n].copy_from_slice(&self.dwells);
         }
         if matches!(call, Call::Plan { .. } | Call::PlanFilled { .. } | Call::OrderTotal { .. } | Call::WriteOrderFile { .. } | Call::ReadOrderFile { .. }) {
             lent.table.copy_from_slice(&self.table);

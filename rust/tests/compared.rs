@@ -68,7 +68,7 @@ fn plain_reader_of_the_benchmark() {
         each_case(&mut random, k, 100, |call, lent| {
             let Call::ReadPath { highest } = call else { return };
             let (mut library, mut plain) = (lent.held(Heap), lent.held(Heap));
-            let answer = plain_path::read_path(&plain.bytes, highest, &mut plain.coords, &mut plain.speeds, &mut plain.blends);
+            let answer = plain_path::read_path(&plain.bytes, highest, &mut plain.coords, &mut plain.speeds, &mut plain.blends, &mut plain.dwells);
             assert_eq!(by_library(call, &mut library), answer.map(|(version, k)| vec![version.into(), k.into()]));
             assert_eq!(library.difference(&plain), None);
         });
@@ -84,6 +84,7 @@ fn path_calls(k: u16, highest: u16) -> Vec<Call> {
         Call::CellCheck { highest },
         Call::CellRewrite { highest, version: 4 },
         Call::CellRewrite { highest, version: 5 },
+        Call::CellRewrite { highest, version: 6 },
     ];
     calls.extend((0..(1 << k) + 2).map(|d| Call::Draw { highest, d }));
     calls
@@ -127,9 +128,9 @@ fn each_damage(bytes: &[u8], mut with: impl FnMut(&[u8])) {
 fn every_damage_of_small_paths() {
     let mut random = seeded("small paths");
     for k in 0..=2 {
-        for _ in 0..3 {
-            let world = World::any(&mut random, k);
-            for highest in 3..=6 {
+        for version in 4..=6 {
+            let world = World::wide(&mut random, k, version);
+            for highest in 3..=7 {
                 let calls = path_calls(k, highest);
                 compare_all(&calls, &mut random, &world, &world.path, &world.file);
                 each_damage(&world.path, |path| compare_all(&calls, &mut random, &world, path, &world.file));
@@ -144,7 +145,7 @@ fn every_damage_of_small_order_files() {
     for k in 0..=4 {
         for _ in 0..6 {
             let world = World::any(&mut random, k);
-            let calls = [Call::ReadOrderFile { k }, Call::CellCheck { highest: 5 }];
+            let calls = [Call::ReadOrderFile { k }, Call::CellCheck { highest: 6 }];
             compare_all(&calls, &mut random, &world, &world.path, &world.file);
             each_damage(&world.file, |file| compare_all(&calls, &mut random, &world, &world.path, file));
         }
@@ -155,14 +156,14 @@ fn every_damage_of_small_order_files() {
 #[test]
 fn every_pair_of_bits() {
     let mut random = seeded("pairs of bits");
-    let world = World::any(&mut random, 0);
+    let world = World::wide(&mut random, 0, 6);
     let flipped = |bytes: &[u8], a: usize, b: usize| {
         let mut other = bytes.to_vec();
         other[a / 8] ^= 1 << (a % 8);
         other[b / 8] ^= 1 << (b % 8);
         other
     };
-    let calls = [Call::ReadPath { highest: 5 }, Call::CellRewrite { highest: 5, version: 4 }];
+    let calls = [Call::ReadPath { highest: 6 }, Call::CellRewrite { highest: 6, version: 5 }];
     for b in 0..8 * world.path.len() {
         for a in 0..b {
             compare_all(&calls, &mut random, &world, &flipped(&world.path, a, b), &world.file);
@@ -237,6 +238,7 @@ fn every_length() {
             shortened(|lent, length| cut(&mut lent.coords, length));
             shortened(|lent, length| cut(&mut lent.speeds, length));
             shortened(|lent, length| cut(&mut lent.blends, length));
+            shortened(|lent, length| cut(&mut lent.dwells, length));
             shortened(|lent, length| cut(&mut lent.order, length));
             shortened(|lent, length| cut(&mut lent.totals, length));
             shortened(|lent, length| cut(&mut lent.pivots, length));

@@ -74,28 +74,28 @@ fn is_path(table: &[Line]) {
     let (version, k) = (table[0].one("version") as u16, table[0].one("k") as u16);
     let n = 1usize << k;
     assert_eq!(table.len(), n + 2);
-    let (mut coords, mut speeds, mut blends) = (vec![7; 3 * n], vec![7; n], vec![7; n]);
-    assert_eq!(ffi::read_path(&file(table), version, &mut coords, &mut speeds, &mut blends), Ok((version, k)));
+    let (mut coords, [mut speeds, mut blends, mut dwells]) = (vec![7; 3 * n], [0; 3].map(|_| vec![7; n]));
+    assert_eq!(ffi::read_path(&file(table), version, &mut coords, &mut speeds, &mut blends, &mut dwells), Ok((version, k)));
     for (i, line) in table[1..=n].iter().enumerate() {
-        let stop = [coords[3 * i].into(), coords[3 * i + 1].into(), coords[3 * i + 2].into(), speeds[i].into(), blends[i].into()];
-        assert_eq!(["x", "y", "z", "speed", "blend"].map(|name| line.one(name)), stop);
+        assert_eq!(["x", "y", "z"].map(|name| line.one(name)), [0, 1, 2].map(|axis| i64::from(coords[3 * i + axis])));
+        assert_eq!(["speed", "blend", "dwell"].map(|name| line.one(name)), [speeds[i], blends[i], dwells[i]].map(i64::from));
     }
     let mut written = vec![0; file(table).len()];
-    assert_eq!(ffi::write_path(version, k, &coords, &speeds, &blends, &mut written), Ok(written.len() as u64));
+    assert_eq!(ffi::write_path(version, k, &coords, &speeds, &blends, &dwells, &mut written), Ok(written.len() as u64));
     assert_eq!(written, file(table));
 }
 
 /// A table is the order file that the controller gets for a path: the library writes these bytes, and reads what the lines say.
 fn is_order_file_of(table: &[Line], path: &[Line]) {
     let mut out = vec![0; file(table).len()];
-    assert_eq!(ffi::cell_plan(&file(path), 5, &mut out), out.len() as i64);
+    assert_eq!(ffi::cell_plan(&file(path), 6, &mut out), out.len() as i64);
     assert_eq!(out, file(table));
-    assert_eq!(ffi::cell_check(&file(path), 5, &out), 0);
+    assert_eq!(ffi::cell_check(&file(path), 6, &out), 0);
     let k = table[0].one("k") as u16;
     let n = 1usize << k;
-    let (mut coords, mut speeds, mut blends, mut times) = (vec![0; 3 * n], vec![0; n], vec![0; n], vec![0; n * n]);
-    ffi::read_path(&file(path), 5, &mut coords, &mut speeds, &mut blends).expect("a path");
-    ffi::make_table(k, &coords, &speeds, &blends, &mut times).expect("good stops");
+    let (mut coords, [mut speeds, mut blends, mut dwells], mut times) = (vec![0; 3 * n], [0; 3].map(|_| vec![0; n]), vec![0; n * n]);
+    ffi::read_path(&file(path), 6, &mut coords, &mut speeds, &mut blends, &mut dwells).expect("a path");
+    ffi::make_table(k, &coords, &speeds, &blends, &dwells, &mut times).expect("good stops");
     let (mut order, mut bits) = (vec![0u16; n], vec![0u8; n.div_ceil(8)]);
     assert_eq!(ffi::read_order_file(k, &times, &out, &mut order, &mut bits), Ok(table[1].one("total") as u64));
     assert_eq!(order.iter().map(|&stop| i64::from(stop)).collect::<Vec<_>>(), table[1].field("order"));
@@ -116,11 +116,12 @@ fn worked_records() {
     kinds.sort();
     kinds.dedup();
     assert_eq!(kinds, [1, 2, 3, 4, 5, 6, 7], "every kind has an example");
-    let [path_5, order_5, path_4, order_4, refused] = &tables[..] else { panic!("five tables") };
-    is_path(path_5);
-    is_order_file_of(order_5, path_5);
-    is_path(path_4);
-    is_order_file_of(order_4, path_4);
+    let [path_5, order_5, path_4, order_4, path_6, order_6, refused] = &tables[..] else { panic!("seven tables") };
+    for (version, path, order) in [(5, path_5, order_5), (4, path_4, order_4), (6, path_6, order_6)] {
+        assert_eq!(path[0].one("version"), version);
+        is_path(path);
+        is_order_file_of(order, path);
+    }
     assert_eq!(refused[0].bytes[4..], (refused[0].one("number") as u16).to_le_bytes());
     assert_eq!(refused[0].one("number"), i64::from(reading::OUT_OF_RANGE));
 }
@@ -138,18 +139,19 @@ fn sizes() {
     for line in lines {
         let said: Vec<u64> = cells(line).into_iter().map(|cell| cell.parse().expect("a number")).collect();
         let n = 1usize << k;
-        let (coords, speeds, blends, table) = (vec![0; 3 * n], vec![1; n], vec![0; n], vec![0; n * n]);
+        let (coords, speeds, zeros, table) = (vec![0; 3 * n], vec![1; n], vec![0; n], vec![0; n * n]);
         let order: Vec<u16> = (0..n as u16).collect();
         let path = |version| {
-            let size = said[if version == 4 { 2 } else { 3 }] as usize;
-            assert_eq!(ffi::write_path(version, k, &coords, &speeds, &blends, &mut vec![0; size - 1]), Err(reading::WRONG_SIZE));
-            ffi::write_path(version, k, &coords, &speeds, &blends, &mut vec![0; size])
+            let size = said[usize::from(version) - 2] as usize;
+            assert_eq!(ffi::write_path(version, k, &coords, &speeds, &zeros, &zeros, &mut vec![0; size - 1]), Err(reading::WRONG_SIZE));
+            ffi::write_path(version, k, &coords, &speeds, &zeros, &zeros, &mut vec![0; size])
         };
-        let bits = said[5] as usize;
+        let bits = said[6] as usize;
         assert_eq!(ffi::fork_bits(k, &order, &mut vec![0; bits - 1]), Err(reading::WRONG_SIZE));
         assert_eq!(ffi::fork_bits(k, &order, &mut vec![0; bits]), Ok(()));
-        let file = ffi::write_order_file(k, &order, &table, &mut vec![0; said[4] as usize]);
-        assert_eq!([Ok(k.into()), Ok(n as u64), path(4), path(5), file, Ok(bits as u64)].map(|size| size.expect("long enough")).to_vec(), said);
+        let file = ffi::write_order_file(k, &order, &table, &mut vec![0; said[5] as usize]);
+        let sizes = [Ok(k.into()), Ok(n as u64), path(4), path(5), path(6), file, Ok(bits as u64)];
+        assert_eq!(sizes.map(|size| size.expect("long enough")).to_vec(), said);
         k += 1;
     }
     assert_eq!(k, 11, "a line for each k");

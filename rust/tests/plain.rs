@@ -44,12 +44,12 @@ type Plain = Box<dyn Fn(&mut Lent<Heap>) -> Answer>;
 fn by_plain(call: Call) -> Vec<Plain> {
     match call {
         Call::ReadPath { highest } => vec![
-            Box::new(move |l| plain_path::read::<Indices>(&l.bytes, highest, &mut l.coords, &mut l.speeds, &mut l.blends).map(head)),
-            Box::new(move |l| plain_path::read::<Chunks>(&l.bytes, highest, &mut l.coords, &mut l.speeds, &mut l.blends).map(head)),
+            Box::new(move |l| plain_path::read::<Indices>(&l.bytes, highest, &mut l.coords, &mut l.speeds, &mut l.blends, &mut l.dwells).map(head)),
+            Box::new(move |l| plain_path::read::<Chunks>(&l.bytes, highest, &mut l.coords, &mut l.speeds, &mut l.blends, &mut l.dwells).map(head)),
         ],
         Call::MakeTable { k } => vec![
-            Box::new(move |l| plain_times::make_table(k, &l.coords, &l.speeds, &l.blends, &mut l.table).map(|()| vec![])),
-            Box::new(move |l| plain_times::make_table_by_slices(k, &l.coords, &l.speeds, &l.blends, &mut l.table).map(|()| vec![])),
+            Box::new(move |l| plain_times::make_table(k, &l.coords, &l.speeds, &l.blends, &l.dwells, &mut l.table).map(|()| vec![])),
+            Box::new(move |l| plain_times::make_table_by_slices(k, &l.coords, &l.speeds, &l.blends, &l.dwells, &mut l.table).map(|()| vec![])),
         ],
         Call::PlanPath { highest } => vec![
             Box::new(move |l| plain_jobs::plan_path::<Slices>(&l.bytes, highest, &mut l.table, &mut l.order, &mut l.totals, &mut l.pivots).map(planned)),

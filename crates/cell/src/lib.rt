@@ -13,7 +13,7 @@ ghost use mathlib.Core.Path.{_≡_};
 ghost use Rattle.base.specs.Buffer.{atEntry};
 ghost use Rattle.cell.specs.Cell.{CellPlans, cellCheck, CellRewrites};
 
-// Plans the wanted order of a path and writes its order file. `highest` is the highest version that the controller knows, 4 or 5.
+// Plans the wanted order of a path and writes its order file. `highest` is the highest version that the controller knows, 4, 5 or 6.
 #[no_mangle]
 pub extern "C" fn cell_plan(path: &[u8], highest: u16, out: &mut [u8]) -> i64
     ensures { λ r. ⌜ CellPlans path highest out r ⌝ }

@@ -72,16 +72,20 @@ verdict (drawn s) = gives aStop
 verdict ended = gives theEnd
 verdict (drawRefused n) = refuses n
 
--- a field of a stop: 0 to 2 are x, y, z, 3 is the speed, 4 the blend, and any other is 0
+-- a field of a stop: 0 to 2 are x, y, z, 3 is the speed, 4 the blend, 5 the dwell, and any other is 0
 abbrev pub speedField : ℕ
 speedField = 3
 
 abbrev pub blendField : ℕ
 blendField = 4
 
+abbrev pub dwellField : ℕ
+dwellField = 5
+
 unfoldable pub fieldOf : (field : ℕ) → Stop → ℤ
 fieldOf field s =
     cond (ltb field speedField) (coordinate s field)
     (cond (eqb field speedField) (pos (s .speed))
     (cond (eqb field blendField) (pos (s .blend))
-    (pos 0)))
+    (cond (eqb field dwellField) (pos (s .dwell))
+    (pos 0))))

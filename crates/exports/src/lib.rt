@@ -48,10 +48,11 @@ pub extern "C" fn ffi_read_path(
     coords: &mut [i32],
     speeds: &mut [u16],
     blends: &mut [u16],
+    dwells: &mut [u16],
 ) -> i64
-    ensures { λ r. ⌜ Exported (ReadsPath bytes highest coords speeds blends) (λ a. signed heading (pathRead a)) r ⌝ }
+    ensures { λ r. ⌜ Exported (ReadsPath bytes highest coords speeds blends dwells) (λ a. signed heading (pathRead a)) r ⌝ }
 {
-    let answer = path::read_path(bytes, highest, coords, speeds, blends);
+    let answer = path::read_path(bytes, highest, coords, speeds, blends, dwells);
     match answer {
         PathRead::Read { version, k } => value(pack(0, version, k)),
         PathRead::Refused(number) => refusal(number),
@@ -66,11 +67,12 @@ pub extern "C" fn ffi_write_path(
     coords: &[i32],
     speeds: &[u16],
     blends: &[u16],
+    dwells: &[u16],
     out: &mut [u8],
 ) -> i64
-    ensures { λ r. ⌜ Exported (WritesPath version k coords speeds blends out) (λ a. signed itself (pathWritten a)) r ⌝ }
+    ensures { λ r. ⌜ Exported (WritesPath version k coords speeds blends dwells out) (λ a. signed itself (pathWritten a)) r ⌝ }
 {
-    let answer = path::write_path(version, k, coords, speeds, blends, out);
+    let answer = path::write_path(version, k, coords, speeds, blends, dwells, out);
     match answer {
         PathWritten::Wrote(count) => value(count),
         PathWritten::Refused(number) => refusal(number),
@@ -84,11 +86,12 @@ pub extern "C" fn ffi_make_table(
     coords: &[i32],
     speeds: &[u16],
     blends: &[u16],
+    dwells: &[u16],
     table: &mut [u32],
 ) -> i64
-    ensures { λ r. ⌜ Exported (MakesTable k coords speeds blends table) (λ a. signed nothing (tableMade a)) r ⌝ }
+    ensures { λ r. ⌜ Exported (MakesTable k coords speeds blends dwells table) (λ a. signed nothing (tableMade a)) r ⌝ }
 {
-    let answer = times::make_table(k, coords, speeds, blends, table);
+    let answer = times::make_table(k, coords, speeds, blends, dwells, table);
     match answer {
         TableMade::Made => 0,
         TableMade::Refused(number) => refusal(number),
@@ -241,7 +244,8 @@ pub extern "C" fn ffi_draw(bytes: &[u8], highest: u16, d: usize) -> i64
     drawn.verdict as i64
 }
 
-// `reader::draw_number`: a field of the stop of draw d, all of them 0 where the draw is no stop. 0 to 2 are x, y, z, 3 is the speed, 4 the blend.
+// `reader::draw_number`: a field of the stop of draw d, all of them 0 where the draw is no stop. 0 to 2 are x, y, z, 3 is the speed, 4 the
+// blend, 5 the dwell.
 #[no_mangle]
 pub extern "C" fn ffi_draw_field(bytes: &[u8], highest: u16, d: usize, field: u16) -> i64
     ensures { λ r. ⌜ r ≡ fieldOf field (drawAnswer (drawAt (atEntry bytes) highest d) .stop) ⌝ }

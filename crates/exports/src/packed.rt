@@ -26,6 +26,8 @@ const SPEED_FIELD: u16 = 3;
 
 const BLEND_FIELD: u16 = 4;
 
+const DWELL_FIELD: u16 = 5;
+
 // A version and k in one number, and a total above them.
 pub fn pack(total: u64, version: u16, k: u16) -> u64
     ensures { λ r. ⌜ r ≡ packed total version k ⌝ }
@@ -40,7 +42,7 @@ pub fn pack_list(total: u64, length: usize) -> u64
     at_most(MOST_LISTED, total) * LENGTH_UNIT + at_most(MOST_LENGTH, length as u64)
 }
 
-// A field of a stop: 0 to 2 are x, y, z, 3 is the speed, 4 the blend, and any other is 0.
+// A field of a stop: 0 to 2 are x, y, z, 3 is the speed, 4 the blend, 5 the dwell, and any other is 0.
 pub fn stop_field(stop: Stop, field: u16) -> i64
     ensures { λ r. ⌜ r ≡ fieldOf field stop ⌝ }
 {
@@ -52,6 +54,9 @@ pub fn stop_field(stop: Stop, field: u16) -> i64
     }
     if field == BLEND_FIELD {
         return stop.blend as i64;
+    }
+    if field == DWELL_FIELD {
+        return stop.dwell as i64;
     }
     0
 }

@@ -8,7 +8,7 @@ use native.Mathlib.Omega.{arith}
 use lib.Dec.{leb}
 use lib.ListN.{length, take}
 use borrow.Author.Tests.{leb-true, not-true}
-use Rattle.base.specs.Refusal.{wrongSize, lostBlend, wrongVersion}
+use Rattle.base.specs.Refusal.{wrongSize, lostField, wrongVersion}
 use Rattle.base.specs.Outcome.{Outcome, gives, refuses, need, andThen, giving, done, number}
 use Rattle.base.proofs.Outcome.{passed}
 use Rattle.stop.specs.declared.Stop.{Stop}
@@ -16,7 +16,7 @@ use Rattle.path.specs.Path.{Path, path, readPath, knownVersion}
 use Rattle.path.specs.Written.{writeStops, losesAny, pathBytes}
 use Rattle.path.proofs.Inverse.{accepted-of, read-once}
 use Rattle.path.proofs.RoundTrip.{rewritten}
-use Rattle.path.proofs.WrittenLaws.{length-written, size-is, bytes-range}
+use Rattle.path.proofs.WrittenLaws.{length-written, size-is, bytes-range, mostBytes}
 use Rattle.times.specs.Table.{entryOf, tableOf}
 use Rattle.times.proofs.Table.{table-small}
 use Rattle.tree.specs.Total.{entry, total}
@@ -117,11 +117,11 @@ unfolding rewriteFile writeStops
 rewritten-from bytes highest version room new e = by (readPath bytes highest smallEnough) refl e
   where
     by : (o : Outcome Path) → readPath bytes highest smallEnough ≡ o
-        → andThen o (λ p. need (knownVersion version) wrongVersion (need (not (losesAny version (p .stops))) lostBlend (need (leb (length (pathBytes version (p .k) (p .stops))) room) wrongSize (gives (pathBytes version (p .k) (p .stops)))))) ≡ gives new
+        → andThen o (λ p. need (knownVersion version) wrongVersion (need (not (losesAny version (p .stops))) lostField (need (leb (length (pathBytes version (p .k) (p .stops))) room) wrongSize (gives (pathBytes version (p .k) (p .stops)))))) ≡ gives new
         → RewrittenFrom bytes highest version new
     by (gives p) m x =
         let to = passed (knownVersion version) wrongVersion _ (omega arith) (ap number x) in
-        let keeps = passed (not (losesAny version (p .stops))) lostBlend _ (omega arith) (to .goes-on) in
+        let keeps = passed (not (losesAny version (p .stops))) lostField _ (omega arith) (to .goes-on) in
         let fits = passed (leb (length (pathBytes version (p .k) (p .stops))) room) wrongSize (gives (pathBytes version (p .k) (p .stops))) (omega arith) (keeps .goes-on) in
         let both : gives (pathBytes version (p .k) (p .stops)) ≡ gives new = sym (to .same ∙ keeps .same ∙ fits .same) ∙ x in
         record { source = p; means = m; known = to .holds; keeps = not-true _ (keeps .holds); is = cc }
@@ -161,10 +161,10 @@ plan-size bytes highest room file e =
     let long : length (wantedFile p) ≡ fileSize (2 ^ p .k) = length-fileFor (p .k) (entryOf (p .stops)) (wantedOrder p) (length-wanted (p .k) (entryOf (p .stops))) in
     subst (λ (x : List ℕ). length x ≤ 162) (f .is) (rw long (omega arith))
 
--- no path has more than 20,492
-pub rewrite-size : (bytes : List ℕ) (highest version room : ℕ) (new : List ℕ) → rewriteFile bytes highest version room ≡ gives new → length new ≤ 20492
+-- no path has more bytes than one of 1,024 stops in the newest version
+pub rewrite-size : (bytes : List ℕ) (highest version room : ℕ) (new : List ℕ) → rewriteFile bytes highest version room ≡ gives new → length new ≤ mostBytes
 rewrite-size bytes highest version room new e =
     let f = rewritten-from bytes highest version room new e in
     let p = f .source in
     let g = path-good bytes highest smallEnough (p .version) (p .k) (p .stops) (f .means) in
-    subst (λ (x : List ℕ). length x ≤ 20492) (f .is) (rw (length-written version (p .k) (p .stops) (g .count), size-is version (p .k)) (omega (arith, bytes-range version (p .k) (g .small))))
+    subst (λ (x : List ℕ). length x ≤ mostBytes) (f .is) (rw (length-written version (p .k) (p .stops) (g .count), size-is version (p .k)) (omega (arith, bytes-range version (p .k) (g .small))))

@@ -10,7 +10,7 @@ use Rattle.path.specs.Path.{readPath, knownVersion}
 use Rattle.path.specs.Written.{writeStops, BytesAreWritten}
 use Rattle.jobs.specs.Limit.{smallEnough}
 
--- the path is read first; 'the version to be written is tested after that and need only be 4 or 5'; 13; 'a rewritten path's output is
+-- the path is read first; 'the version to be written is tested after that and need only be 4 or 5' (or 6, M-102); 13; 'a rewritten path's output is
 -- tested last'
 unfoldable pub rewriteFile : (bytes : List ℕ) (highest version room : ℕ) → Outcome (List ℕ)
 rewriteFile bytes highest version room =

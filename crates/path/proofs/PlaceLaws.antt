@@ -8,26 +8,30 @@ use native.Mathlib.Omega.{arith}
 use lib.Dec.{leb}
 use lib.ListN.{length, take, drop, drop-of-length-le}
 use lib.Seq.{take-take}
-use borrow.Author.Tests.{leb-true, leb-false}
-use Rattle.records.specs.Record.{recordLength}
-use Rattle.records.proofs.LengthLaws.{length-old, length-new, stop-length-4, stop-length-5}
+use borrow.Author.Tests.{leb-true, leb-false, le-leb}
+use Rattle.records.specs.Record.{recordLength, laterFields, blendSince, dwellSince}
+use Rattle.records.proofs.LengthLaws.{stop-length}
+use Rattle.records.proofs.Versions.{later-few, later-blend, later-dwell}
 use Rattle.path.specs.Path.{stopPlace, stopSize}
 
--- a stop's record takes 18 bytes below version 5 and 20 from there on
-pub size-old : (version : ℕ) → version < 5 → stopSize version ≡ 18
+-- a stop's record takes 18 bytes, and 2 for each of the later fields that its version has
+pub size-later : (version : ℕ) → stopSize version ≡ 18 + 2 * laterFields version
 unfolding stopSize
-size-old version h = rw (length-old 2 version 0 h, stop-length-4)
+size-later version = rw (stop-length version) (omega arith)
 
-pub size-new : (version : ℕ) → 5 ≤ version → stopSize version ≡ 20
-unfolding stopSize
-size-new version h = rw (length-new 2 version 0 h, stop-length-5)
+-- and so many in the newest version
+abbrev pub largestStop : ℕ
+largestStop = 22
 
-pub size-range : (version : ℕ) → (18 ≤ stopSize version) × (stopSize version ≤ 20)
-size-range version = pick (leb 5 version) refl
-  where
-    pick : (b : Bool) → leb 5 version ≡ b → (18 ≤ stopSize version) × (stopSize version ≤ 20)
-    pick true e = rw (size-new version (leb-true _ _ e)) (omega arith)
-    pick false e = rw (size-old version (leb-false _ _ e)) (omega arith)
+pub size-range : (version : ℕ) → (18 ≤ stopSize version) × (stopSize version ≤ largestStop)
+size-range version = rw (size-later version) (omega (arith, later-few version))
+
+-- a version that has the blend, and one that has the dwell
+pub size-blend : (version : ℕ) → blendSince ≤ version → 20 ≤ stopSize version
+size-blend version h = rw (size-later version) (omega (arith, later-blend version (le-leb _ _ h)))
+
+pub size-dwell : (version : ℕ) → dwellSince ≤ version → largestStop ≤ stopSize version
+size-dwell version h = rw (size-later version) (omega (arith, later-dwell version (le-leb _ _ h)))
 
 pub size-length : (version : ℕ) → stopSize version ≡ 2 + recordLength 2 version 0
 unfolding stopSize
@@ -45,11 +49,11 @@ pub place-suc : (version i : ℕ) → stopPlace version (suc i) ≡ stopPlace ve
 unfolding stopPlace
 place-suc version i = rw suc-mul (omega arith)
 
--- a stop's record takes 18 to 20 bytes, so its place lies between
-pub place-range : (version i : ℕ) → (8 + i * 18 ≤ stopPlace version i) × (stopPlace version i ≤ 8 + i * 20)
+-- a stop's place, by the least and the largest size of those before it
+pub place-range : (version i : ℕ) → (8 + i * 18 ≤ stopPlace version i) × (stopPlace version i ≤ 8 + i * largestStop)
 place-range version i =
     let low : i * 18 ≤ i * stopSize version = mul-le-mul-left i (size-range version .0) in
-    let high : i * stopSize version ≤ i * 20 = mul-le-mul-left i (size-range version .1) in
+    let high : i * stopSize version ≤ i * largestStop = mul-le-mul-left i (size-range version .1) in
     rw (place-is version i) (omega arith)
 
 -- one more stop before another lies before it

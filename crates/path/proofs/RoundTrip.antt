@@ -1,33 +1,34 @@
 -- The round trips: what was written reads as the same path; what was read is written as the same bytes; and the same stops written in another
 -- version that holds them mean the same.
 use mathlib.Core.Path.{_≡_, refl, sym, ap, _∙_}
-use mathlib.Core.Bool.{Bool, true, false, cond, _||_, not, true≢false}
+use mathlib.Core.Bool.{true, false, _||_}
 use mathlib.Core.List.{List, [], _∷_, _++_, append-assoc, append-nil}
 use Prim.Native.Nat.{ℕ, zero, suc, _+_, _-_, _*_, _^_, _≤_}
 use native.Mathlib.Nat.{zero-mul, suc-mul}
 use native.Mathlib.Omega.{arith}
-use lib.Dec.{leb, eqb}
+use lib.Dec.{leb}
 use lib.ListN.{length, take, drop, length-append, length-drop, take-append-drop}
 use lib.Seq.{take-at, drop-at, take-all}
-use borrow.Author.Tests.{le-leb, eqb-true}
+use borrow.Author.Tests.{leb-true}
 use Rattle.base.specs.Outcome.{Outcome, gives, andThen, giving}
 use Rattle.records.specs.Field.{numberOf, bytesOf, areBytes}
-use Rattle.records.specs.Record.{recordLength, recordBytes, isKind, takeRecord, Taken, taken}
+use Rattle.records.specs.Record.{recordLength, recordBytes, isKind, takeRecord, Taken, taken, oldestVersion, blendSince, dwellSince}
 use Rattle.records.proofs.FieldLaws.{length-bytesOf, number-bytesOf, areBytes-take, areBytes-drop}
 use Rattle.records.proofs.LengthLaws.{path-length, end-length, length-small}
 use Rattle.records.proofs.RecordLaws.{take-written, taken-written, taken-whole}
 use Rattle.stop.specs.declared.Stop.{Stop}
 use Rattle.stop.specs.Stop.{inRange, judgeStop}
 use Rattle.stop.specs.Lent.{allInRange}
-use Rattle.base.proofs.Bools.{and-left, and-right}
-use Rattle.path.specs.Path.{pathHead, path, readHead, headOf, readPath, readBody, stopOf, stopThen, endOf, knownVersion, stopSize, pathSize}
+use Rattle.base.proofs.Bools.{and-left, and-right, or-left, or-right}
+use Rattle.path.specs.Path.{pathHead, path, readHead, headOf, readPath, readBody, stopOf, stopThen, endOf, newestVersion, knownVersion, stopSize, pathSize}
 use Rattle.path.specs.Written.{stopContent, stopBytes, stopsBytes, headBytes, pathBytes, losesField, losesAny}
 use Rattle.path.proofs.BodyLaws.{body-zero, body-suc}
 use Rattle.path.proofs.HeadLaws.{fields-good}
 use Rattle.path.proofs.Inverse.{next-of, ended-of, accepted-of, opened-of}
 use Rattle.path.proofs.PlaceLaws.{size-length, size-range}
 use Rattle.path.proofs.JudgeLaws.{path-body}
-use Rattle.path.proofs.StopFields.{explicit-stop, explicit-loss}
+use Rattle.path.specs.Local.{isLost}
+use Rattle.path.proofs.StopFields.{explicit-stop, explicit-loss, own-kept, newer-keeps}
 use Rattle.path.proofs.StopRound.{stop-back, content-back, plain-back}
 use Rattle.path.proofs.WrittenLaws.{length-content, size-is}
 
@@ -45,21 +46,9 @@ unfolding isKind
 end-kind = refl
 
 -- a known version is a small number
-pub known-small : (version : ℕ) → knownVersion version ≡ true → version ≤ 5
+pub known-small : (version : ℕ) → knownVersion version ≡ true → version ≤ newestVersion
 unfolding knownVersion
-known-small version e = pick (eqb version 4) refl e
-  where
-    pick : (b : Bool) → eqb version 4 ≡ b → (b || eqb version 5) ≡ true → version ≤ 5
-    pick true p q = let four : version ≡ 4 = eqb-true _ _ p in omega arith
-    pick false p q = let five : version ≡ 5 = eqb-true _ _ q in omega arith
-
-or-left : (a b : Bool) → (a || b) ≡ false → a ≡ false
-or-left true b e = absurd (true≢false e)
-or-left false b e = refl
-
-or-right : (a b : Bool) → (a || b) ≡ false → b ≡ false
-or-right true b e = absurd (true≢false e)
-or-right false b e = e
+known-small version e = leb-true _ _ (and-right (leb oldestVersion version) (leb version newestVersion) e)
 
 -- ---- written, then read
 
@@ -165,11 +154,8 @@ write-read bytes highest test version k ss b e =
 
 field-kept : (version : ℕ) (content : List ℕ) → losesField version (stopOf version content) ≡ false
 field-kept version content =
-    explicit-loss version (stopOf version content) ∙ rw (explicit-stop version content) (pick (leb 5 version))
-  where
-    pick : (b : Bool) → not (b || eqb (cond b (numberOf (take 2 (drop 14 content))) 0) 0) ≡ false
-    pick true = refl
-    pick false = refl
+    explicit-loss version (stopOf version content)
+    ∙ rw (explicit-stop version content, own-kept blendSince version (drop 14 content), own-kept dwellSince version (drop 16 content))
 
 -- so many stops, each in range, none with a field that the version lacks, in just these bytes
 pub record Facts (version n : ℕ) (s : List ℕ) (ss : List Stop) : Type 0 where
@@ -217,11 +203,20 @@ accepted-size bytes highest test version k ss e =
 
 -- ---- another version
 
--- from version 5 on every field of a stop is held
-pub any-new : (version : ℕ) (ss : List Stop) → 5 ≤ version → losesAny version ss ≡ false
+-- a version that keeps every field of a stop is followed by versions that do
+newer-field : (version to : ℕ) (s : Stop) → version ≤ to → losesField version s ≡ false → losesField to s ≡ false
+newer-field version to s h e =
+    let both : (isLost blendSince version (s .blend) || isLost dwellSince version (s .dwell)) ≡ false = sym (explicit-loss version s) ∙ e in
+    let blend = or-left (isLost blendSince version (s .blend)) (isLost dwellSince version (s .dwell)) both in
+    let dwell = or-right (isLost blendSince version (s .blend)) (isLost dwellSince version (s .dwell)) both in
+    explicit-loss to s ∙ rw (newer-keeps blendSince version to (s .blend) h blend, newer-keeps dwellSince version to (s .dwell) h dwell)
+
+pub newer-any : (version to : ℕ) (ss : List Stop) → version ≤ to → losesAny version ss ≡ false → losesAny to ss ≡ false
 unfolding losesAny
-any-new version [] h = refl
-any-new version (s ∷ ss) h = rw (explicit-loss version s, le-leb 5 version h) (any-new version ss h)
+newer-any version to [] h e = refl
+newer-any version to (s ∷ ss) h e =
+    rw (newer-field version to s h (or-left (losesField version s) (losesAny version ss) e))
+    (newer-any version to ss h (or-right (losesField version s) (losesAny version ss) e))
 
 -- a path that was read, written in a version that holds its stops, means the same stops
 pub rewritten : (bytes : List ℕ) (highest : ℕ) (test : ℕ → Outcome Unit) (version k : ℕ) (ss : List Stop) (to known-to : ℕ) → readPath bytes highest test ≡ gives (path version k ss) → knownVersion known-to ≡ true → knownVersion to ≡ true → to ≤ known-to → losesAny to ss ≡ false → readPath (pathBytes to k ss) known-to test ≡ gives (path to k ss)
@@ -230,7 +225,9 @@ rewritten bytes highest test version k ss to known-to e kh kt le kept =
     let f = body-facts version (2 ^ k) (drop 8 bytes) ss (a .body) in
     read-written to k known-to test ss kh kt le (a .small) (a .takes) (f .count) (f .range) kept
 
--- 'a version 4 path and its version 5 rewriting mean the same stops'
-pub four-to-five : (bytes : List ℕ) (highest : ℕ) (test : ℕ → Outcome Unit) (k : ℕ) (ss : List Stop) → readPath bytes highest test ≡ gives (path 4 k ss) → readPath (pathBytes 5 k ss) 5 test ≡ gives (path 5 k ss)
-unfolding knownVersion
-four-to-five bytes highest test k ss e = rewritten bytes highest test 4 k ss 5 5 e refl refl (omega arith) (any-new 5 ss (omega arith))
+-- and every newer version holds them
+pub newer-rewritten : (bytes : List ℕ) (highest : ℕ) (test : ℕ → Outcome Unit) (version k : ℕ) (ss : List Stop) (to known-to : ℕ) → readPath bytes highest test ≡ gives (path version k ss) → knownVersion known-to ≡ true → knownVersion to ≡ true → version ≤ to → to ≤ known-to → readPath (pathBytes to k ss) known-to test ≡ gives (path to k ss)
+newer-rewritten bytes highest test version k ss to known-to e kh kt newer le =
+    let a = accepted-of bytes highest test version k ss e in
+    let f = body-facts version (2 ^ k) (drop 8 bytes) ss (a .body) in
+    rewritten bytes highest test version k ss to known-to e kh kt le (newer-any version to ss newer (f .kept))

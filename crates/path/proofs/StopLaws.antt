@@ -1,47 +1,49 @@
 -- Laws of one stop's record: what its content means does not depend on what follows it.
-use mathlib.Core.Path.{_≡_, sym, refl, ap, _∙_}
-use mathlib.Core.Bool.{Bool, true, false, cond}
+use mathlib.Core.Path.{_≡_, sym, ap, _∙_}
+use mathlib.Core.Bool.{true}
 use mathlib.Core.List.{List, [], _∷_}
-use Prim.Native.Nat.{ℕ, _+_, _-_, _≤_}
+use Prim.Native.Nat.{ℕ, _+_, _-_, _*_, _≤_}
 use native.Mathlib.Omega.{arith}
-use lib.Dec.{leb}
 use lib.IntN.{ℤ}
 use lib.ListN.{length, take, drop, length-drop}
 use lib.Seq.{take-take, drop-drop}
-use borrow.Author.Tests.{le-leb, leb-true, leb-false}
+use borrow.Author.Tests.{le-leb}
 use Rattle.base.specs.Outcome.{Outcome, gives, refuses, andThen, giving, number}
 use Rattle.base.proofs.Outcome.{refused, number-first}
 use Rattle.records.specs.Field.{numberOf, signed}
-use Rattle.records.specs.Record.{Taken, recordLength, takeRecord}
-use Rattle.records.proofs.LengthLaws.{length-old, length-new, stop-length-4, stop-length-5}
+use Rattle.records.specs.Record.{Taken, recordLength, takeRecord, laterFields, blendSince, dwellSince}
+use Rattle.records.proofs.LengthLaws.{stop-length}
+use Rattle.records.proofs.Versions.{later-blend, later-dwell}
 use Rattle.records.proofs.RecordLaws.{by-taken, number-good}
 use Rattle.stop.specs.declared.Stop.{Stop}
 use Rattle.stop.specs.Stop.{inRange, judgeStop}
 use Rattle.stop.proofs.Limits.{judged-good}
 use Rattle.path.specs.Path.{stopOf, stopIn, readStop, stopThen, stopSize, stopPlace}
-use Rattle.path.proofs.StopFields.{explicit-stop}
+use Rattle.path.specs.Local.{fieldSince}
+use Rattle.path.proofs.StopFields.{explicit-stop, since-window}
 use Rattle.path.proofs.PlaceLaws.{window, size-length, size-range}
 
 -- the stop of fields that are those of the content
-pub same-stop : (version : ℕ) (s : List ℕ) {x y z : ℤ} {v b : ℕ} → x ≡ signed (numberOf (take 4 s)) → y ≡ signed (numberOf (take 4 (drop 4 s))) → z ≡ signed (numberOf (take 4 (drop 8 s))) → v ≡ numberOf (take 2 (drop 12 s)) → b ≡ cond (leb 5 version) (numberOf (take 2 (drop 14 s))) 0 → _≡_ {A = Stop} (record { at = x ∷ y ∷ z ∷ []; speed = v; blend = b }) (stopOf version s)
-same-stop version s ex ey ez ev eb = rw (ex, ey, ez, ev, eb) (sym (explicit-stop version s))
+pub same-stop : (version : ℕ) (s : List ℕ) {x y z : ℤ} {v b d : ℕ} → x ≡ signed (numberOf (take 4 s)) → y ≡ signed (numberOf (take 4 (drop 4 s))) → z ≡ signed (numberOf (take 4 (drop 8 s))) → v ≡ numberOf (take 2 (drop 12 s)) → b ≡ fieldSince blendSince version (drop 14 s) → d ≡ fieldSince dwellSince version (drop 16 s) → _≡_ {A = Stop} (record { at = x ∷ y ∷ z ∷ []; speed = v; blend = b; dwell = d }) (stopOf version s)
+same-stop version s ex ey ez ev eb ed = rw (ex, ey, ez, ev, eb, ed) (sym (explicit-stop version s))
 
--- the fields at their places, with those of the content alone
-content-long : (version : ℕ) (s : List ℕ) → leb 5 version ≡ true → stopOf version (take 16 s) ≡ stopOf version s
-content-long version s e =
-    rw (explicit-stop version (take 16 s), explicit-stop version s, e, take-take 4 16 s (omega arith), window 4 4 16 s (omega arith), window 4 8 16 s (omega arith), window 2 12 16 s (omega arith), window 2 14 16 s (omega arith))
-
-content-short : (version : ℕ) (s : List ℕ) → leb 5 version ≡ false → stopOf version (take 14 s) ≡ stopOf version s
-content-short version s e =
-    rw (explicit-stop version (take 14 s), explicit-stop version s, e, take-take 4 14 s (omega arith), window 4 4 14 s (omega arith), window 4 8 14 s (omega arith), window 2 12 14 s (omega arith))
+-- bytes mean the stop that their front means, where it has the version's fields
+front-stop : (version m : ℕ) (s : List ℕ) → 14 + 2 * laterFields version ≤ m → stopOf version (take m s) ≡ stopOf version s
+front-stop version m s h =
+    rw (
+      explicit-stop version (take m s),
+      explicit-stop version s,
+      take-take 4 m s (omega arith),
+      window 4 4 m s (omega arith),
+      window 4 8 m s (omega arith),
+      window 2 12 m s (omega arith),
+      since-window blendSince version 14 m s (λ e. omega (arith, later-blend version e)),
+      since-window dwellSince version 16 m s (λ e. omega (arith, later-dwell version e)),
+    )
 
 -- the content alone means the same stop as the bytes that it begins
 pub content-stop : (version : ℕ) (s : List ℕ) → stopOf version (take (recordLength 2 version 0 - 2) s) ≡ stopOf version s
-content-stop version s = pick (leb 5 version) refl
-  where
-    pick : (b : Bool) → leb 5 version ≡ b → stopOf version (take (recordLength 2 version 0 - 2) s) ≡ stopOf version s
-    pick true e = rw (length-new 2 version 0 (leb-true _ _ e), stop-length-5) (content-long version s e)
-    pick false e = rw (length-old 2 version 0 (leb-false _ _ e), stop-length-4) (content-short version s e)
+content-stop version s = front-stop version (recordLength 2 version 0 - 2) s (omega (arith, stop-length version))
 
 -- ---- a stop's record
 

@@ -1,28 +1,26 @@
 -- Laws of what a path is written as: the parts of each record, and their lengths.
 use mathlib.Core.Path.{_≡_, refl, sym, _∙_}
-use mathlib.Core.Bool.{Bool, true, false}
 use mathlib.Core.List.{List, [], _∷_, _++_, append-assoc, append-nil}
 use Prim.Native.Nat.{ℕ, _+_, _*_, _^_, _≤_}
 use native.Mathlib.Nat.{zero-mul, suc-mul, mul-le-mul-right}
 use native.Mathlib.Omega.{arith}
-use lib.Dec.{leb}
 use lib.IntN.{ℤ}
 use lib.ListN.{length, length-append}
-use borrow.Author.Tests.{leb-true, leb-false}
 use Rattle.base.specs.Outcome.{over}
 use Rattle.base.proofs.Size.{pow-le-1024}
 use Rattle.records.specs.Field.{bytesOf}
 use Rattle.records.specs.Put.{put}
-use Rattle.records.specs.Record.{recordBytes, recordLength}
+use Rattle.records.specs.Record.{recordBytes, recordLength, laterFields}
 use Rattle.records.proofs.FieldLaws.{length-bytesOf}
 use Rattle.records.proofs.LengthLaws.{path-length, end-length}
 use Rattle.records.proofs.PutLaws.{put-front}
 use Rattle.records.proofs.RecordLaws.{length-recordBytes}
+use Rattle.records.proofs.Versions.{Layout, plain, blended, dwelling, layout}
 use Rattle.stop.specs.declared.Stop.{Stop}
 use Rattle.path.specs.Path.{stopSize, pathSize}
 use Rattle.path.specs.Written.{pointBytes, paceBytes, stopContent, stopBytes, stopsBytes, headBytes, pathBytes}
-use Rattle.path.proofs.StopFields.{explicit-content, pace-old, pace-new}
-use Rattle.path.proofs.PlaceLaws.{size-old, size-new, size-length, size-range}
+use Rattle.path.proofs.StopFields.{explicit-content, explicit-pace, laterBytes}
+use Rattle.path.proofs.PlaceLaws.{size-later, size-length, size-range, largestStop}
 
 -- ---- lengths
 
@@ -30,18 +28,19 @@ pub length-point : (point : List ℤ) → length (pointBytes point) ≡ 12
 unfolding pointBytes
 length-point point = rw (length-append, length-append, length-bytesOf, length-bytesOf, length-bytesOf)
 
-pub length-pace : (version speed blend : ℕ) → 16 + length (paceBytes version speed blend) ≡ stopSize version
-length-pace version speed blend = pick (leb 5 version) refl
+pub length-pace : (version speed blend dwell : ℕ) → 16 + length (paceBytes version speed blend dwell) ≡ stopSize version
+unfolding laterFields
+length-pace version speed blend dwell = rw (explicit-pace version speed blend dwell, size-later version) (by (layout version))
   where
-    pick : (b : Bool) → leb 5 version ≡ b → 16 + length (paceBytes version speed blend) ≡ stopSize version
-    pick true e =
-        rw (pace-new version speed blend (leb-true _ _ e), size-new version (leb-true _ _ e), length-append, length-bytesOf, length-bytesOf)
-    pick false e = rw (pace-old version speed blend (leb-false _ _ e), size-old version (leb-false _ _ e), length-bytesOf)
+    by : Layout version → 16 + length (bytesOf 2 speed ++ laterBytes version blend dwell) ≡ 18 + 2 * laterFields version
+    by (plain p q) = rw p (simp (length-append, length-bytesOf))
+    by (blended p q) = rw (p, q) (simp (length-append, length-bytesOf))
+    by (dwelling p q) = rw (p, q) (simp (length-append, length-bytesOf))
 
 pub length-content : (version : ℕ) (s : Stop) → 2 + length (stopContent version s) ≡ recordLength 2 version 0
 length-content version s =
     let p : length (pointBytes (s .at)) ≡ 12 = length-point (s .at) in
-    let q : 16 + length (paceBytes version (s .speed) (s .blend)) ≡ stopSize version = length-pace version (s .speed) (s .blend) in
+    let q : 16 + length (paceBytes version (s .speed) (s .blend) (s .dwell)) ≡ stopSize version = length-pace version (s .speed) (s .blend) (s .dwell) in
     let z : stopSize version ≡ 2 + recordLength 2 version 0 = size-length version in
     rw (explicit-content version s, length-append) (omega arith)
 
@@ -73,10 +72,14 @@ pub length-written : (version k : ℕ) (ss : List Stop) → length ss ≡ 2 ^ k 
 length-written version k ss e = length-pathBytes version k ss ∙ rw (e, size-is)
 
 -- a path has at most 1,024 stops
-pub bytes-range : (version k : ℕ) → k ≤ 10 → 2 ^ k * stopSize version ≤ 20480
+pub bytes-range : (version k : ℕ) → k ≤ 10 → 2 ^ k * stopSize version ≤ 1024 * largestStop
 bytes-range version k h =
     let a : 2 ^ k * stopSize version ≤ 1024 * stopSize version = mul-le-mul-right (stopSize version) (pow-le-1024 k h) in
     omega (arith, size-range version)
+
+-- so no path has more bytes than those, 8 of the head and 4 of the end
+abbrev pub mostBytes : ℕ
+mostBytes = 8 + 1024 * largestStop + 4
 
 -- ---- parts
 
@@ -88,10 +91,10 @@ pub end-parts : recordBytes 3 [] ≡ bytesOf 2 (recordLength 3 4 0) ++ bytesOf 2
 unfolding recordBytes
 end-parts = rw (append-nil, end-length)
 
-content-parts : (version : ℕ) (s : Stop) (a : List ℕ) → a ++ stopContent version s ≡ a ++ pointBytes (s .at) ++ paceBytes version (s .speed) (s .blend)
-content-parts version s a = rw (explicit-content version s) (sym (append-assoc a (pointBytes (s .at)) (paceBytes version (s .speed) (s .blend))))
+content-parts : (version : ℕ) (s : Stop) (a : List ℕ) → a ++ stopContent version s ≡ a ++ pointBytes (s .at) ++ paceBytes version (s .speed) (s .blend) (s .dwell)
+content-parts version s a = rw (explicit-content version s) (sym (append-assoc a (pointBytes (s .at)) (paceBytes version (s .speed) (s .blend) (s .dwell))))
 
-pub stop-parts : (version : ℕ) (s : Stop) → stopBytes version s ≡ bytesOf 2 (recordLength 2 version 0) ++ bytesOf 2 2 ++ pointBytes (s .at) ++ paceBytes version (s .speed) (s .blend)
+pub stop-parts : (version : ℕ) (s : Stop) → stopBytes version s ≡ bytesOf 2 (recordLength 2 version 0) ++ bytesOf 2 2 ++ pointBytes (s .at) ++ paceBytes version (s .speed) (s .blend) (s .dwell)
 unfolding stopBytes recordBytes
 stop-parts version s = rw (length-content version s) (content-parts version s (bytesOf 2 (recordLength 2 version 0) ++ bytesOf 2 2))
 

@@ -1,21 +1,25 @@
 -- What the private functions promise each other.
-use mathlib.Core.Bool.{Bool, cond, not}
+use mathlib.Core.Bool.{Bool, cond, not, _||_}
 use mathlib.Core.List.{List}
 use Prim.Native.Nat.{ℕ}
-use lib.Dec.{leb}
-use lib.ListN.{take, drop}
-use Rattle.base.specs.Refusal.{wrongSize, lostBlend}
+use lib.Dec.{leb, eqb}
+use lib.ListN.{take}
+use Rattle.base.specs.Refusal.{wrongSize, lostField}
 use Rattle.base.specs.Outcome.{Outcome, gives, need}
 use Rattle.records.specs.Field.{numberOf}
 use Rattle.path.specs.Path.{pathSize}
 
--- the blend in a stop's content: 0 where the version has none
-abbrev pub blendIn : (version : ℕ) (content : List ℕ) → ℕ
-blendIn version content = cond (leb 5 version) (numberOf (take 2 (drop 14 content))) 0
+-- a 2-byte field at the front of bytes that stops have from version `since` on: 0 in an older version
+abbrev pub fieldSince : (since version : ℕ) (s : List ℕ) → ℕ
+fieldSince since version s = cond (leb since version) (numberOf (take 2 s)) 0
+
+-- such a field is lost where it is not 0 and the version is older
+abbrev pub isLost : (since version value : ℕ) → Bool
+isLost since version value = not (leb since version || eqb value 0)
 
 -- 13 and 8 of a path that is to be written: whether it loses a field, and whether there is room
 abbrev pub judgeOutput : (loses : Bool) (version k room : ℕ) → Outcome Unit
 judgeOutput loses version k room =
-    need (not loses) lostBlend
+    need (not loses) lostField
     (need (leb (pathSize version k) room) wrongSize
     (gives tt))

@@ -1,5 +1,5 @@
 -- What path bytes mean: 'A path is kind 1, n of kind 2, kind 3.'
-use mathlib.Core.Bool.{Bool, cond, _&&_, _||_}
+use mathlib.Core.Bool.{Bool, cond, _&&_}
 use mathlib.Core.List.{List, [], _∷_}
 use Prim.Native.Nat.{ℕ, zero, suc, _+_, _*_, _^_}
 use lib.Dec.{leb, eqb}
@@ -9,25 +9,34 @@ use Rattle.base.specs.Outcome.{Outcome, gives, need, andThen, giving}
 use Rattle.base.specs.Size.{maxK}
 use Rattle.base.specs.Lists.{tabulate}
 use Rattle.records.specs.Field.{numberOf, signed, unsigned, readFields}
-use Rattle.records.specs.Record.{Taken, takeRecord, recordLength, stopFields, pathKind, stopKind, endKind}
+use Rattle.records.specs.Record.{Taken, takeRecord, recordLength, stopFields, oldestVersion, pathKind, stopKind, endKind}
 use Rattle.stop.specs.declared.Stop.{Stop}
 use Rattle.stop.specs.Stop.{judgeStop, coordinate, zeroStop}
 
--- 'version not 4 or 5'
-unfoldable pub knownVersion : ℕ → Bool
-knownVersion version = eqb version 4 || eqb version 5
+-- the newest version: 'The highest known version and the version to be written may be 4, 5 or 6' (M-102)
+abbrev pub newestVersion : ℕ
+newestVersion = 6
 
--- a stop's fields as numbers, in the order of its record: x, y, z in two's complement, speed, blend
+-- 4, 5 or 6
+unfoldable pub knownVersion : ℕ → Bool
+knownVersion version = leb oldestVersion version && leb version newestVersion
+
+-- a stop's fields as numbers, in the order of its record: x, y, z in two's complement, speed, blend, dwell
 unfoldable pub stopValues : Stop → List ℕ
 stopValues s =
-    unsigned (coordinate s 0) ∷ unsigned (coordinate s 1) ∷ unsigned (coordinate s 2) ∷ s .speed ∷ s .blend ∷ []
+    unsigned (coordinate s 0) ∷ unsigned (coordinate s 1) ∷ unsigned (coordinate s 2) ∷ s .speed ∷ s .blend ∷ s .dwell ∷ []
 
 -- the stop of such numbers; one that is not there counts as 0
 unfoldable pub stopOfValues : List ℕ → Stop
 stopOfValues vs =
-    record { at = signed (getD vs 0 0) ∷ signed (getD vs 1 0) ∷ signed (getD vs 2 0) ∷ []; speed = getD vs 3 0; blend = getD vs 4 0 }
+    record {
+      at = signed (getD vs 0 0) ∷ signed (getD vs 1 0) ∷ signed (getD vs 2 0) ∷ [];
+      speed = getD vs 3 0;
+      blend = getD vs 4 0;
+      dwell = getD vs 5 0;
+    }
 
--- the stop that a record's content means: the fields of the version; 'Version 4 reads as blend 0'
+-- the stop that a record's content means: the fields of the version; 'Version 4 reads as blend 0', 'Versions 4 and 5 read as dwell 0'
 unfoldable pub stopOf : (version : ℕ) (content : List ℕ) → Stop
 stopOf version content = stopOfValues (readFields (stopFields version) content)
 
@@ -42,7 +51,7 @@ pub record PathHead : Type 0 where
 abbrev pub pathHead : (version k : ℕ) (rest : List ℕ) → PathHead
 pathHead version k rest = record { version = version; k = k; rest = rest }
 
--- 'In the head: version, k'
+-- 'In the head: version, k'; 'A controller that knows only 4 or 5 still turns a newer path down at its head' (M-102)
 unfoldable pub headFields : (highest version k : ℕ) (rest : List ℕ) → Outcome PathHead
 headFields highest version k rest =
     need (knownVersion version && leb version highest) wrongVersion

@@ -36,7 +36,7 @@ unfoldable pub said : PathRead → Outcome Heading
 said (Read version k) = gives (record { version = version; k = k })
 said (Refused n) = refuses n
 
--- 'then lent lengths (8)': coordinates need 3n places, speeds and blends n each
+-- 'then lent lengths (8)': coordinates need 3n places, speeds, blends and dwells n each
 abbrev pub stopRoom : LentStops → ℕ → Outcome Unit
 stopRoom lent k = need (stopsFit (2 ^ k) lent) wrongSize (gives tt)
 
@@ -50,6 +50,6 @@ pub record PathIsRead (bytes : List ℕ) (highest : ℕ) (before afterwards : Le
   pub left : afterwards ≡ left (readInto bytes highest before) (λ p. overStops (p .stops) before) before
 
 -- the same of the call's parameters
-abbrev pub ReadsPath : Unsigned → ℕ → Signed → Unsigned → Unsigned → PathRead → Type 0
-ReadsPath bytes highest coords speeds blends r =
-    PathIsRead (atEntry bytes) highest (lentStops coords speeds blends) (leftStops coords speeds blends) r
+abbrev pub ReadsPath : Unsigned → ℕ → Signed → Unsigned → Unsigned → Unsigned → PathRead → Type 0
+ReadsPath bytes highest coords speeds blends dwells r =
+    PathIsRead (atEntry bytes) highest (lentStops coords speeds blends dwells) (leftStops coords speeds blends dwells) r

@@ -6,7 +6,7 @@ use Prim.Native.Nat.{ℕ, _^_}
 use lib.Dec.{leb, eqb}
 use lib.IntN.{ℤ, pos}
 use lib.ListN.{length, drop, getD}
-use Rattle.base.specs.Refusal.{wrongVersion, wrongK, wrongSize, lostBlend}
+use Rattle.base.specs.Refusal.{wrongVersion, wrongK, wrongSize, lostField}
 use Rattle.base.specs.Outcome.{Outcome, gives, refuses, need, andThen, giving, after}
 use Rattle.base.specs.Buffer.{Unsigned, Signed, atEntry, atExit}
 use Rattle.base.specs.Size.{maxK}
@@ -44,7 +44,7 @@ unfoldable pub allZero : List ℕ → Bool
 allZero [] = true
 allZero (x ∷ xs) = eqb x 0 && allZero xs
 
--- 'version 4 to be written, a blend not 0': a field not 0 that the version lacks
+-- 'Number 13 covers any field not 0 that the version to be written lacks' (M-102)
 unfoldable pub losesField : (version : ℕ) → Stop → Bool
 losesField version s = not (allZero (drop (length (stopFields version)) (stopValues s)))
 
@@ -56,7 +56,7 @@ losesAny version (s ∷ ss) = losesField version s || losesAny version ss
 -- the path of 2^k stops in a version, to be written to an output of `room` bytes: 13, then 8
 unfoldable pub writeStops : (version k room : ℕ) → List Stop → Outcome (List ℕ)
 writeStops version k room ss =
-    need (not (losesAny version ss)) lostBlend
+    need (not (losesAny version ss)) lostField
     (need (leb (length (pathBytes version k ss)) room) wrongSize
     (gives (pathBytes version k ss)))
 
@@ -84,9 +84,9 @@ pub record BytesAreWritten (o : Outcome (List ℕ)) (before afterwards : List �
   pub left : afterwards ≡ after o (λ bytes. bytes) before
 
 -- the same of the parameters of each call
-abbrev pub WritesPath : ℕ → ℕ → Signed → Unsigned → Unsigned → Unsigned → PathWritten → Type 0
-WritesPath version k coords speeds blends out r =
-    BytesAreWritten (writePath version k (lentStops coords speeds blends) (length (atEntry out))) (atEntry out) (atExit out) r
+abbrev pub WritesPath : ℕ → ℕ → Signed → Unsigned → Unsigned → Unsigned → Unsigned → PathWritten → Type 0
+WritesPath version k coords speeds blends dwells out r =
+    BytesAreWritten (writePath version k (lentStops coords speeds blends dwells) (length (atEntry out))) (atEntry out) (atExit out) r
 
 abbrev pub RewritesPath : Unsigned → ℕ → ℕ → ℕ → Unsigned → PathWritten → Type 0
 RewritesPath bytes version k wanted out r =
@@ -99,6 +99,6 @@ unfoldable pub pointBytes : List ℤ → List ℕ
 pointBytes point =
     bytesOf 4 (unsigned (getD point 0 (pos 0))) ++ bytesOf 4 (unsigned (getD point 1 (pos 0))) ++ bytesOf 4 (unsigned (getD point 2 (pos 0)))
 
--- what comes after them: speed, and the blend where the version has it
-unfoldable pub paceBytes : (version speed blend : ℕ) → List ℕ
-paceBytes version speed blend = writeFields (drop 3 (stopFields version)) (speed ∷ blend ∷ [])
+-- what comes after them: speed, and of blend and dwell what the version has
+unfoldable pub paceBytes : (version speed blend dwell : ℕ) → List ℕ
+paceBytes version speed blend dwell = writeFields (drop 3 (stopFields version)) (speed ∷ blend ∷ dwell ∷ [])

@@ -1,5 +1,7 @@
 // The fields of a stop's record that lies within the bytes, read with no test for each byte. These functions have a `requires`: the module
 // is private.
+use records::BLEND_SINCE;
+use records::DWELL_SINCE;
 use stop::Stop;
 ghost use mathlib.Core.Path.{_≡_};
 ghost use Prim.Native.Nat.{_+_, _≤_};
@@ -7,7 +9,7 @@ ghost use lib.ListN.{length, take, drop};
 ghost use Rattle.base.specs.Buffer.{atEntry};
 ghost use Rattle.records.specs.Field.{numberOf, signed};
 ghost use Rattle.path.specs.Path.{stopOf, stopSize};
-ghost use Rattle.path.specs.Local.{blendIn};
+ghost use Rattle.path.specs.Local.{fieldSince};
 
 // The number of the two bytes from `at` on.
 fn word16(bytes: &[u8], at: usize) -> u16
@@ -33,15 +35,15 @@ fn coordinate_in(bytes: &[u8], at: usize) -> i32
     records::to_signed(word32(bytes, at))
 }
 
-// The blend of a stop whose content begins at `at`; version 4 has none.
-fn blend_in(bytes: &[u8], version: u16, at: usize) -> u16
-    requires { ⌜ at + stopSize version ≤ 4 + length (now bytes) ⌝ }
-    ensures { λ r. ⌜ r ≡ blendIn version (drop at (atEntry bytes)) ⌝ }
+// The 2-byte field at `at` that stops have from version `since` on: 0 in an older version.
+fn field_since(bytes: &[u8], since: u16, version: u16, at: usize) -> u16
+    requires { ⌜ (since ≤ version → at + 2 ≤ length (now bytes)) ⌝ }
+    ensures { λ r. ⌜ r ≡ fieldSince since version (drop at (atEntry bytes)) ⌝ }
 {
-    if version < 5 {
+    if version < since {
         return 0;
     }
-    word16(bytes, at + 14)
+    word16(bytes, at)
 }
 
 // The stop whose content begins at `at`.
@@ -56,6 +58,7 @@ pub fn stop_in(bytes: &[u8], version: u16, at: usize) -> Stop
             coordinate_in(bytes, at + 8),
         ],
         speed: word16(bytes, at + 12),
-        blend: blend_in(bytes, version, at),
+        blend: field_since(bytes, BLEND_SINCE, version, at + 14),
+        dwell: field_since(bytes, DWELL_SINCE, version, at + 16),
     }
 }

@@ -27,18 +27,18 @@ ghost use Rattle.path.specs.Reading.{headGiven};
 // The versions that are known.
 const OLDEST: u16 = 4;
 
-const NEWEST: u16 = 5;
+const NEWEST: u16 = 6;
 
 // The bytes of a head and of an end record.
 pub const HEAD_SIZE: usize = 8;
 
 pub const END_SIZE: usize = 4;
 
-// Whether a version is 4 or 5.
+// Whether a version is 4, 5 or 6.
 pub fn known_version(version: u16) -> bool
     ensures { λ r. ⌜ r ≡ knownVersion version ⌝ }
 {
-    version == OLDEST || version == NEWEST
+    OLDEST <= version && version <= NEWEST
 }
 
 // The answer of a refused head.
@@ -112,6 +112,7 @@ fn no_stop() -> Stop
         at: [0, 0, 0],
         speed: 0,
         blend: 0,
+        dwell: 0,
     }
 }
 
@@ -144,7 +145,7 @@ pub fn judge_stop(bytes: &[u8], version: u16, i: usize) -> u16
     }
     let s = stop_from(bytes, version, i);
     let at = s.at;
-    Stop::new(at, s.speed, s.blend).refused
+    Stop::new(at, s.speed, s.blend, s.dwell).refused
 }
 
 // 0, or the refusal of the end of a path of `count` stops.

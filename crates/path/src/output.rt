@@ -2,9 +2,11 @@
 use crate::judge::END_SIZE;
 use crate::judge::HEAD_SIZE;
 use crate::judge::stop_size;
-use base::LOST_BLEND;
+use base::LOST_FIELD;
 use base::WRONG_SIZE;
 use base::stop_count;
+use records::BLEND_SINCE;
+use records::DWELL_SINCE;
 use stop::Stop;
 ghost use mathlib.Core.Path.{_≡_};
 ghost use Prim.Native.Nat.{_≤_};
@@ -12,16 +14,26 @@ ghost use Rattle.base.specs.Outcome.{number};
 ghost use Rattle.base.specs.Size.{maxK};
 ghost use Rattle.path.specs.Path.{pathSize};
 ghost use Rattle.path.specs.Written.{losesField};
-ghost use Rattle.path.specs.Local.{judgeOutput};
+ghost use Rattle.path.specs.Local.{isLost, judgeOutput};
+
+// Whether a field that stops have from version `since` on is lost: it is not 0, and the version is older.
+fn is_lost(since: u16, version: u16, value: u16) -> bool
+    ensures { λ r. ⌜ r ≡ isLost since version value ⌝ }
+{
+    if since <= version {
+        return false;
+    }
+    value != 0
+}
 
 // Whether a version lacks a field of a stop that is not 0.
 pub fn loses_field(version: u16, s: Stop) -> bool
     ensures { λ r. ⌜ r ≡ losesField version s ⌝ }
 {
-    if 5 <= version {
-        return false;
+    if is_lost(BLEND_SINCE, version, s.blend) {
+        return true;
     }
-    s.blend != 0
+    is_lost(DWELL_SINCE, version, s.dwell)
 }
 
 // The bytes that a path takes.
@@ -38,7 +50,7 @@ pub fn judge_output(loses: bool, version: u16, k: u16, room: usize) -> u16
     ensures { λ r. ⌜ r ≡ number (judgeOutput loses version k room) ⌝ }
 {
     if loses {
-        return LOST_BLEND;
+        return LOST_FIELD;
     }
     if room < path_size(version, k) {
         return WRONG_SIZE;

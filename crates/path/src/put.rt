@@ -1,5 +1,7 @@
-// The records of a path put into bytes, each whole or not at all.
+// The records of a path put into bytes, each whole or not at all. One function has a `requires`: the module is private.
 use crate::judge::stop_size;
+use records::BLEND_SINCE;
+use records::DWELL_SINCE;
 use records::END;
 use records::PATH;
 use records::STOP;
@@ -10,9 +12,12 @@ use records::record_length;
 use stop::Stop;
 ghost use mathlib.Core.Path.{_≡_};
 ghost use mathlib.Core.List.{[], _++_};
+ghost use Prim.Native.Nat.{_+_, _≤_};
+ghost use lib.ListN.{length};
 ghost use Rattle.records.specs.Field.{bytesOf};
 ghost use Rattle.records.specs.Put.{put};
 ghost use Rattle.records.specs.Record.{recordBytes, recordLength, endKind};
+ghost use Rattle.path.specs.Path.{stopSize};
 ghost use Rattle.path.specs.Written.{pointBytes, paceBytes, stopBytes, headBytes};
 
 // Writes the length of a kind and version, and the kind.
@@ -36,14 +41,18 @@ fn put_point(out: &mut [u8], at: usize, point: [i32; 3])
     }
 }
 
-// Writes the speed and, from version 5 on, the blend.
-fn put_pace(out: &mut [u8], at: usize, version: u16, speed: u16, blend: u16)
-    ensures { λ r. ⌜ now (out .exit) ≡ put (now (out .entry)) at (paceBytes version speed blend) ⌝ }
+// Writes what comes after the point of a stop, where there is room for it: the speed, and of blend and dwell what the version has.
+fn put_pace(out: &mut [u8], at: usize, version: u16, speed: u16, blend: u16, dwell: u16)
+    requires { ⌜ at + stopSize version ≤ 16 + length (now out) ⌝ }
+    ensures { λ r. ⌜ now (out .exit) ≡ put (now (out .entry)) at (paceBytes version speed blend dwell) ⌝ }
 {
-    if version < 5 {
-        put16(out, at, speed)
-    } else {
-        put_pair(out, at, speed, blend)
+    if version < BLEND_SINCE {
+        put16(out, at, speed);
+        return;
+    }
+    put_pair(out, at, speed, blend);
+    if DWELL_SINCE <= version {
+        put16(out, at + 4, dwell);
     }
 }
 
@@ -59,7 +68,7 @@ pub fn put_stop(out: &mut [u8], at: usize, version: u16, s: Stop)
         let point = s.at;
         put_start(out, at, STOP, version);
         put_point(out, at + 4, point);
-        put_pace(out, at + 16, version, s.speed, s.blend);
+        put_pace(out, at + 16, version, s.speed, s.blend, s.dwell);
     }
 }
 

@@ -23,10 +23,11 @@ fn store_records(
     coords: &[i32],
     speeds: &[u16],
     blends: &[u16],
+    dwells: &[u16],
     out: &mut [u8],
 )
     requires { ⌜ stopPlace version count ≤ length (now out) ⌝ }
-    ensures { λ r. ⌜ now (out .exit) ≡ put (now (out .entry)) 8 (stopsBytes version (firstStops count (lentStops coords speeds blends))) ⌝ }
+    ensures { λ r. ⌜ now (out .exit) ≡ put (now (out .entry)) 8 (stopsBytes version (firstStops count (lentStops coords speeds blends dwells))) ⌝ }
 {
     let size = stop_size(version);
     for i in 0..count {
@@ -34,7 +35,7 @@ fn store_records(
             out,
             HEAD_SIZE + i * size,
             version,
-            stop_at(coords, speeds, blends, i),
+            stop_at(coords, speeds, blends, dwells, i),
         );
     }
 }
@@ -46,13 +47,14 @@ pub fn store_path(
     coords: &[i32],
     speeds: &[u16],
     blends: &[u16],
+    dwells: &[u16],
     out: &mut [u8],
 )
     requires { ⌜ (k ≤ maxK) × (pathSize version k ≤ length (now out)) ⌝ }
-    ensures { λ r. ⌜ now (out .exit) ≡ over (pathBytes version k (firstStops (2 ^ k) (lentStops coords speeds blends))) (now (out .entry)) ⌝ }
+    ensures { λ r. ⌜ now (out .exit) ≡ over (pathBytes version k (firstStops (2 ^ k) (lentStops coords speeds blends dwells))) (now (out .entry)) ⌝ }
 {
     let count = stop_count(k);
     put_head(out, version, k);
-    store_records(version, count, coords, speeds, blends, out);
+    store_records(version, count, coords, speeds, blends, dwells, out);
     put_end(out, HEAD_SIZE + count * stop_size(version));
 }

@@ -17,11 +17,18 @@ ghost use Rattle.stop.specs.Lent.{lentStops, firstStops};
 ghost use Rattle.path.specs.Written.{losesAny, writePath, WritesPath};
 
 // Whether a version lacks a field that is not 0 of one of the first `count` stops.
-fn loses_any(version: u16, count: usize, coords: &[i32], speeds: &[u16], blends: &[u16]) -> bool
-    ensures { λ r. ⌜ r ≡ losesAny version (firstStops count (lentStops coords speeds blends)) ⌝ }
+fn loses_any(
+    version: u16,
+    count: usize,
+    coords: &[i32],
+    speeds: &[u16],
+    blends: &[u16],
+    dwells: &[u16],
+) -> bool
+    ensures { λ r. ⌜ r ≡ losesAny version (firstStops count (lentStops coords speeds blends dwells)) ⌝ }
 {
     for i in 0..count {
-        if loses_field(version, stop_at(coords, speeds, blends, i)) {
+        if loses_field(version, stop_at(coords, speeds, blends, dwells, i)) {
             return true;
         }
     }
@@ -35,9 +42,10 @@ fn judge_write(
     coords: &[i32],
     speeds: &[u16],
     blends: &[u16],
+    dwells: &[u16],
     room: usize,
 ) -> u16
-    ensures { λ r. ⌜ r ≡ number (writePath version k (lentStops coords speeds blends) room) ⌝ }
+    ensures { λ r. ⌜ r ≡ number (writePath version k (lentStops coords speeds blends dwells) room) ⌝ }
 {
     if !known_version(version) {
         return WRONG_VERSION;
@@ -46,11 +54,11 @@ fn judge_write(
         return WRONG_K;
     }
     let count = stop_count(k);
-    let refused = judge_stops(count, coords, speeds, blends);
+    let refused = judge_stops(count, coords, speeds, blends, dwells);
     if refused != 0 {
         return refused;
     }
-    let loses = loses_any(version, count, coords, speeds, blends);
+    let loses = loses_any(version, count, coords, speeds, blends, dwells);
     judge_output(loses, version, k, room)
 }
 
@@ -61,14 +69,15 @@ pub fn write_path(
     coords: &[i32],
     speeds: &[u16],
     blends: &[u16],
+    dwells: &[u16],
     out: &mut [u8],
 ) -> PathWritten
-    ensures { λ r. ⌜ WritesPath version k coords speeds blends out r ⌝ }
+    ensures { λ r. ⌜ WritesPath version k coords speeds blends dwells out r ⌝ }
 {
-    let refused = judge_write(version, k, coords, speeds, blends, out.len());
+    let refused = judge_write(version, k, coords, speeds, blends, dwells, out.len());
     if refused != 0 {
         return PathWritten::Refused(refused);
     }
-    store_path(version, k, coords, speeds, blends, out);
+    store_path(version, k, coords, speeds, blends, dwells, out);
     PathWritten::Wrote(path_size(version, k) as u64)
 }

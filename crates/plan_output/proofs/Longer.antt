@@ -10,7 +10,7 @@ use lib.ListN.{length, take}
 use lib.Seq.{take-all}
 use Rattle.base.specs.Outcome.{Outcome, gives, giving, number}
 use Rattle.path.specs.Path.{Path, readPath, pathSize, stopSize}
-use Rattle.path.proofs.PlaceLaws.{size-range}
+use Rattle.path.proofs.PlaceLaws.{size-range, largestStop}
 use Rattle.path.proofs.Prefix.{path-prefix}
 use Rattle.path.proofs.WrittenLaws.{size-is}
 use Rattle.jobs.specs.Limit.{smallEnough}
@@ -18,15 +18,15 @@ use Rattle.jobs.specs.Plan.{wantedFile}
 use Rattle.jobs.proofs.Limits.{passes-small, pow-le-64}
 use Rattle.plan_output.specs.Output.{programHighest, written, outputFor}
 
--- the bytes of the longest path of k up to 6
+-- the bytes of the longest path of k up to 6, in the newest version
 abbrev pub longestPath : ℕ
-longestPath = 1292
+longestPath = 1420
 
 path-bound : (version k : ℕ) → smallEnough k ≡ gives tt → pathSize version k ≤ longestPath
 path-bound version k e =
     let n = pow-le-64 k (passes-small k e) in
-    let stop : stopSize version ≤ 20 = size-range version .1 in
-    let all : 2 ^ k * stopSize version ≤ 64 * 20 = le-trans (mul-le-mul-left (2 ^ k) stop) (mul-le-mul-right 20 n) in
+    let stop : stopSize version ≤ largestStop = size-range version .1 in
+    let all : 2 ^ k * stopSize version ≤ 64 * largestStop = le-trans (mul-le-mul-left (2 ^ k) stop) (mul-le-mul-right largestStop n) in
     rw (size-is version k) (omega arith)
 
 -- THE LAW: the first bytes, one more than the longest path has, settle the output

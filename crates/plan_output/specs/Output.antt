@@ -1,4 +1,5 @@
 -- 'The program reads a path on standard input, highest version 5, k up to 6, and writes the order file or one kind 7 record.'
+-- M-102: 'The program's highest version becomes 6.'
 use mathlib.Core.Path.{_≡_}
 use mathlib.Core.List.{List}
 use Prim.Native.Nat.{ℕ, _≤_}
@@ -12,7 +13,7 @@ use Rattle.jobs.specs.Plan.{wantedFile}
 
 -- the highest version that the program knows
 abbrev pub programHighest : ℕ
-programHighest = 5
+programHighest = 6
 
 -- 'refused: number 2 bytes'
 unfoldable pub refusedBytes : (number : ℕ) → List ℕ

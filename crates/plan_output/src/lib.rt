@@ -15,13 +15,13 @@ ghost use Rattle.records.specs.Put.{put};
 ghost use Rattle.plan_output.specs.Output.{refusedBytes, IsOutput};
 
 // The highest version that the program knows.
-pub const HIGHEST: u16 = 5;
+pub const HIGHEST: u16 = 6;
 
 // The bytes of the longest order file, that of 64 stops.
 pub const LONGEST_FILE: usize = 162;
 
 // The bytes of the longest accepted path, and one more: what comes after them cannot change the output.
-pub const ENOUGH_INPUT: usize = 1_293;
+pub const ENOUGH_INPUT: usize = 1_421;
 
 // The bytes of a kind 7 record.
 const REFUSED_SIZE: usize = 6;

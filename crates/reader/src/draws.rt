@@ -37,6 +37,7 @@ fn no_stop() -> Stop
         at: [0, 0, 0],
         speed: 0,
         blend: 0,
+        dwell: 0,
     }
 }
 

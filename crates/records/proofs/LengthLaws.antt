@@ -2,51 +2,61 @@
 use mathlib.Core.Path.{_≡_, refl, _∙_}
 use mathlib.Core.Bool.{Bool, true, false}
 use mathlib.Core.List.{List, [], _∷_}
-use Prim.Native.Nat.{ℕ, _+_, _*_, _/_, _%_, _≤_, _<_}
+use Prim.Native.Nat.{ℕ, _+_, _*_, _/_, _≤_, _<_}
 use native.Mathlib.Omega.{arith}
-use lib.Dec.{eqb, eqb→eq, leb, leb→le}
-use lib.ListN.{getD}
+use lib.Dec.{T, eqb, eqb→eq, leb, leb→le}
+use lib.ListN.{length, getD}
 use borrow.Author.Tests.{le-leb, lt-leb, leb-true, leb-false}
-use Rattle.records.specs.Record.{recordLength, fields, stopFields, partFor, sum, isKind}
-use Rattle.records.proofs.Table.{at}
+use Rattle.records.specs.Record.{recordLength, fields, stopFields, laterFields, oldestVersion, partFor, sum, isKind}
+use Rattle.records.proofs.Table.{both, both-left, both-right, every, at}
+use Rattle.records.proofs.Versions.{Layout, plain, blended, dwelling, layout, later-few, later-again}
 
--- the numbers of the constant table
-unfoldable pub lengths : List ℕ
-lengths = 0 ∷ 0 ∷ 6 ∷ 6 ∷ 16 ∷ 18 ∷ 2 ∷ 2 ∷ 4 ∷ 4 ∷ 10 ∷ 10 ∷ 2 ∷ 2 ∷ 4 ∷ 4 ∷ []
+-- the numbers of the constant table: a row for each kind, a column for each version
+unfoldable pub lengths : List (List ℕ)
+lengths =
+    (0 ∷ 0 ∷ 0 ∷ [])
+    ∷ (6 ∷ 6 ∷ 6 ∷ [])
+    ∷ (16 ∷ 18 ∷ 20 ∷ [])
+    ∷ (2 ∷ 2 ∷ 2 ∷ [])
+    ∷ (4 ∷ 4 ∷ 4 ∷ [])
+    ∷ (10 ∷ 10 ∷ 10 ∷ [])
+    ∷ (2 ∷ 2 ∷ 2 ∷ [])
+    ∷ (4 ∷ 4 ∷ 4 ∷ [])
+    ∷ []
 
-right : ℕ → ℕ → Bool
-right i x = eqb x (recordLength (i / 2) (4 + i % 2) 0)
+-- three lengths that pass a test of each by its kind and column
+row-test : (ℕ → ℕ → ℕ → Bool) → ℕ → List ℕ → Bool
+row-test test kind row = both (eqb (length row) 3) (every (test kind) 0 row)
+
+-- a test of all rows tells of each entry
+entry : (test : ℕ → ℕ → ℕ → Bool) → T (every (row-test test) 0 lengths) → (kind column : ℕ) → kind < 8 → column < 3 → T (test kind column (getD (getD lengths kind []) column 0))
+unfolding lengths row-test
+entry test all kind column h k =
+    let row : List ℕ = getD lengths kind [] in
+    let here : T (row-test test kind row) = at (row-test test) lengths [] all kind h in
+    let long : length row ≡ 3 = eqb→eq (length row) 3 (both-left (eqb (length row) 3) (every (test kind) 0 row) here) in
+    at (test kind) row 0 (both-right (eqb (length row) 3) (every (test kind) 0 row) here) column (rw long k)
+
+right : (kind column x : ℕ) → Bool
+right kind column x = eqb x (recordLength kind (oldestVersion + column) 0)
 
 -- the rule at each entry
-pub lengths-rule : (i : ℕ) → i < 16 → getD lengths i 0 ≡ recordLength (i / 2) (4 + i % 2) 0
-unfolding lengths right recordLength fields stopFields partFor sum isKind
-lengths-rule i h = eqb→eq (getD lengths i 0) (recordLength (i / 2) (4 + i % 2) 0) (at right lengths tt i h)
+pub lengths-rule : (kind column : ℕ) → kind < 8 → column < 3 → getD (getD lengths kind []) column 0 ≡ recordLength kind (oldestVersion + column) 0
+unfolding lengths row-test right recordLength fields stopFields laterFields partFor sum isKind
+lengths-rule kind column h k = eqb→eq (getD (getD lengths kind []) column 0) (recordLength kind (oldestVersion + column) 0) (entry right tt kind column h k)
 
--- versions below 5 have the lengths of version 4, the others those of version 5
-pub length-old : (kind version n : ℕ) → version < 5 → recordLength kind version n ≡ recordLength kind 4 n
+-- every version has the lengths of the column of its later fields
+same-column : (kind version n : ℕ) → recordLength kind (oldestVersion + laterFields version) n ≡ recordLength kind version n
 unfolding recordLength fields stopFields
-length-old kind version n h = rw (lt-leb 5 version h)
-
-pub length-new : (kind version n : ℕ) → 5 ≤ version → recordLength kind version n ≡ recordLength kind 5 n
-unfolding recordLength fields stopFields
-length-new kind version n h = rw (le-leb 5 version h)
+same-column kind version n = rw (later-again version)
 
 -- a kind above 7 has no length
 pub length-unknown : (kind version n : ℕ) → 7 < kind → recordLength kind version n ≡ 0
 unfolding recordLength isKind
 length-unknown kind version n h = rw (le-leb 1 kind (omega arith), lt-leb kind 7 h)
 
-pub table-old : (kind version : ℕ) → kind ≤ 7 → version < 5 → getD lengths (kind * 2) 0 ≡ recordLength kind version 0
-table-old kind version k v =
-    let half : kind * 2 / 2 ≡ kind = omega arith in
-    let even : 4 + kind * 2 % 2 ≡ 4 = omega arith in
-    rw (length-old kind version 0 v) (lengths-rule (kind * 2) (omega arith) ∙ rw (half, even))
-
-pub table-new : (kind version : ℕ) → kind ≤ 7 → 5 ≤ version → getD lengths (kind * 2 + 1) 0 ≡ recordLength kind version 0
-table-new kind version k v =
-    let half : (kind * 2 + 1) / 2 ≡ kind = omega arith in
-    let odd : 4 + (kind * 2 + 1) % 2 ≡ 5 = omega arith in
-    rw (length-new kind version 0 v) (lengths-rule (kind * 2 + 1) (omega arith) ∙ rw (half, odd))
+pub table-length : (kind version : ℕ) → kind ≤ 7 → getD (getD lengths kind []) (laterFields version) 0 ≡ recordLength kind version 0
+table-length kind version k = lengths-rule kind (laterFields version) (omega arith) (omega (arith, later-few version)) ∙ same-column kind version 0
 
 -- ---- the length of each kind
 
@@ -54,13 +64,15 @@ pub path-length : (version : ℕ) → recordLength 1 version 0 ≡ 6
 unfolding recordLength fields partFor sum isKind
 path-length version = refl
 
-pub stop-length-4 : recordLength 2 4 0 ≡ 16
-unfolding recordLength fields stopFields partFor sum isKind
-stop-length-4 = refl
-
-pub stop-length-5 : recordLength 2 5 0 ≡ 18
-unfolding recordLength fields stopFields partFor sum isKind
-stop-length-5 = refl
+-- each of a stop's later fields has 2 bytes
+pub stop-length : (version : ℕ) → recordLength 2 version 0 ≡ 16 + 2 * laterFields version
+unfolding recordLength fields stopFields laterFields partFor sum isKind
+stop-length version = by (layout version)
+  where
+    by : Layout version → recordLength 2 version 0 ≡ 16 + 2 * laterFields version
+    by (plain p q) = rw p
+    by (blended p q) = rw (p, q)
+    by (dwelling p q) = rw (p, q)
 
 pub end-length : (version : ℕ) → recordLength 3 version 0 ≡ 2
 unfolding recordLength fields partFor sum isKind
@@ -84,19 +96,21 @@ refused-length version = refl
 
 -- ---- no length is large
 
-small : ℕ → ℕ → Bool
-small i x = leb x 18
+-- the longest record without a part for n is a stop's in the newest version
+abbrev pub longestLength : ℕ
+longestLength = 20
 
-entry-small : (i : ℕ) → i < 16 → getD lengths i 0 ≤ 18
-unfolding lengths small
-entry-small i h = leb→le (getD lengths i 0) 18 (at small lengths tt i h)
+small : (kind column x : ℕ) → Bool
+small kind column x = leb x longestLength
 
-pub length-small : (kind version : ℕ) → recordLength kind version 0 ≤ 18
-length-small kind version = by-kind (leb kind 7) refl (leb 5 version) refl
+entry-small : (kind column : ℕ) → kind < 8 → column < 3 → getD (getD lengths kind []) column 0 ≤ longestLength
+unfolding lengths row-test small
+entry-small kind column h k = leb→le (getD (getD lengths kind []) column 0) longestLength (entry small tt kind column h k)
+
+pub length-small : (kind version : ℕ) → recordLength kind version 0 ≤ longestLength
+length-small kind version = by-kind (leb kind 7) refl
   where
-    by-kind : (a : Bool) → leb kind 7 ≡ a → (b : Bool) → leb 5 version ≡ b → recordLength kind version 0 ≤ 18
-    by-kind false p b q = rw (length-unknown kind version 0 (leb-false _ _ p)) (omega arith)
-    by-kind true p true q =
-        rw (← table-new kind version (leb-true _ _ p) (leb-true _ _ q)) (entry-small (kind * 2 + 1) (omega (arith, leb-true kind 7 p)))
-    by-kind true p false q =
-        rw (← table-old kind version (leb-true _ _ p) (leb-false _ _ q)) (entry-small (kind * 2) (omega (arith, leb-true kind 7 p)))
+    by-kind : (a : Bool) → leb kind 7 ≡ a → recordLength kind version 0 ≤ longestLength
+    by-kind false p = rw (length-unknown kind version 0 (leb-false _ _ p)) (omega arith)
+    by-kind true p =
+        rw (← table-length kind version (leb-true _ _ p)) (entry-small kind (laterFields version) (omega (arith, leb-true kind 7 p)) (omega (arith, later-few version)))

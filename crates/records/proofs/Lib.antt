@@ -1,5 +1,6 @@
 -- Laws of fields, of bytes put into a buffer, and of records.
 pub mod FieldLaws
+pub mod Versions
 pub mod LengthLaws
 pub mod PutLaws
 pub mod RecordLaws

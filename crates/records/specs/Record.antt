@@ -40,9 +40,25 @@ refusedKind = 7
 unfoldable pub isKind : ℕ → Bool
 isKind kind = leb 1 kind && leb kind 7
 
--- the widths of a stop's fields: x, y, z, speed; from version 5 on also blend
+-- the oldest version
+abbrev pub oldestVersion : ℕ
+oldestVersion = 4
+
+-- the first version whose stops have a blend
+abbrev pub blendSince : ℕ
+blendSince = 5
+
+-- and the first whose stops have a dwell: 'Version 6 stops carry, after the blend, a 2-byte dwell' (M-102)
+abbrev pub dwellSince : ℕ
+dwellSince = 6
+
+-- how many of a stop's later fields, blend and dwell, a version has
+unfoldable pub laterFields : (version : ℕ) → ℕ
+laterFields version = cond (leb blendSince version) (cond (leb dwellSince version) 2 1) 0
+
+-- the widths of a stop's fields: x, y, z, speed; of blend and dwell those that the version has
 unfoldable pub stopFields : (version : ℕ) → List ℕ
-stopFields version = 4 ∷ 4 ∷ 4 ∷ 2 ∷ cond (leb 5 version) (2 ∷ []) []
+stopFields version = 4 ∷ 4 ∷ 4 ∷ 2 ∷ take (laterFields version) (2 ∷ 2 ∷ [])
 
 -- the widths of the fields that a record's content begins with, by kind and version: path: version, k; stop; order: k;
 -- stops: total; refused: number; the others none

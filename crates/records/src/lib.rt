@@ -12,6 +12,8 @@ pub use field::put_signed;
 pub use field::put16;
 pub use field::put64;
 pub use field::to_signed;
+pub use record::BLEND_SINCE;
+pub use record::DWELL_SINCE;
 pub use record::END;
 pub use record::FORKS;
 pub use record::ORDER;

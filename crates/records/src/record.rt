@@ -24,22 +24,40 @@ pub const FORKS: u16 = 6;
 
 pub const REFUSED: u16 = 7;
 
-// The lengths that records say, without the part for n of kinds 5 and 6: two for each kind, for version 4 and for version 5.
-const LENGTHS: [usize; 16] = [0, 0, 6, 6, 16, 18, 2, 2, 4, 4, 10, 10, 2, 2, 4, 4];
+// The first version whose stops have a blend.
+pub const BLEND_SINCE: u16 = 5;
 
-// The length that a record of a kind and version says, without the part for n of kinds 5 and 6; 0 for no kind.
+// The first version whose stops have a dwell.
+pub const DWELL_SINCE: u16 = 6;
+
+// The lengths that records say, without the part for n of kinds 5 and 6: a row for each kind from 0 on, which is none, with versions 4, 5 and 6.
+const LENGTHS: [[usize; 3]; 8] = [
+    [0, 0, 0],
+    [6, 6, 6],
+    [16, 18, 20],
+    [2, 2, 2],
+    [4, 4, 4],
+    [10, 10, 10],
+    [2, 2, 2],
+    [4, 4, 4],
+];
+
+// The length that a record of a kind and version says, without the part for n of kinds 5 and 6; 0 for no kind. A column of the table has the lengths of the versions
+// with as many of a stop's later fields, blend and dwell.
 pub fn record_length(kind: u16, version: u16) -> usize
     ensures { λ r. ⌜ r ≡ recordLength kind version 0 ⌝ }
 {
     if 7 < kind {
         return 0;
     }
-    let at = (kind as usize) * 2;
-    if version < 5 {
-        LENGTHS[at]
-    } else {
-        LENGTHS[at + 1]
+    let row = kind as usize;
+    if version < BLEND_SINCE {
+        return LENGTHS[row][0];
     }
+    if version < DWELL_SINCE {
+        return LENGTHS[row][1];
+    }
+    LENGTHS[row][2]
 }
 
 // Whether a kind that was found is the one due. Unknown numbers are no kind at all.

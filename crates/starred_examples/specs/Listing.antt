@@ -7,7 +7,7 @@ use Rattle.starred_examples.specs.Example.{Example, planned, plannedFor,
 
 -- a stop on the x axis
 abbrev pub onAxis : ℕ → ℕ → Stop
-onAxis x speed = record { at = pos x ∷ pos 0 ∷ pos 0 ∷ []; speed = speed; blend = 0 }
+onAxis x speed = record { at = pos x ∷ pos 0 ∷ pos 0 ∷ []; speed = speed; blend = 0; dwell = 0 }
 
 -- 'x = 0, 30, 10, 20, speeds 100, rest 0'
 abbrev pub fourStops : List Stop
@@ -35,7 +35,7 @@ starred =
     -- 'D = 1, speed 200', by M-100: 'the D = 1 example becomes 0'
     ∷ timed (onAxis 0 200) (onAxis 1 200) 1 0
     -- 'D = 40,000, speed 1: 4,000,000 ms'
-    ∷ timed (record { at = pos 20000 ∷ pos 0 ∷ pos 0 ∷ []; speed = 1; blend = 0 }) (record { at = negsuc 19999 ∷ pos 0 ∷ pos 0 ∷ []; speed = 1; blend = 0 }) 40000 4000000
+    ∷ timed (record { at = pos 20000 ∷ pos 0 ∷ pos 0 ∷ []; speed = 1; blend = 0; dwell = 0 }) (record { at = negsuc 19999 ∷ pos 0 ∷ pos 0 ∷ []; speed = 1; blend = 0; dwell = 0 }) 40000 4000000
     ∷ []
 
 -- answers to the 50 example that demand 3 turns down, the ones that 'A reviewer's afternoon' would put in

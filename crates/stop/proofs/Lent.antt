@@ -19,7 +19,7 @@ use Rattle.base.proofs.Outcome.{passed}
 use Rattle.stop.specs.declared.Stop.{Stop}
 use Rattle.stop.specs.Stop.{inRange, zeroStop}
 use Rattle.base.specs.Lists.{tabulate}
-use Rattle.stop.specs.Lent.{LentStops, buffers, overStops, pointAt, stopAt, firstStops, coordsOf, speedsOf, blendsOf, allInRange, stopsFit, judgeAll, judgeLent, Judged}
+use Rattle.stop.specs.Lent.{LentStops, buffers, overStops, pointAt, stopAt, firstStops, coordsOf, speedsOf, blendsOf, dwellsOf, allInRange, stopsFit, judgeAll, judgeLent, Judged}
 use Rattle.base.proofs.Lists.{length-tabulate, getD-tabulate, tabulate-cong, tabulate-getD, map-tabulate}
 use Rattle.stop.proofs.Limits.{good}
 
@@ -40,7 +40,8 @@ point-beyond coords i h =
 
 -- the buffers without the first stop
 abbrev pub afterFirst : LentStops → LentStops
-afterFirst lent = record { coords = drop 3 (lent .coords); speeds = drop 1 (lent .speeds); blends = drop 1 (lent .blends) }
+afterFirst lent =
+    record { coords = drop 3 (lent .coords); speeds = drop 1 (lent .speeds); blends = drop 1 (lent .blends); dwells = drop 1 (lent .dwells) }
 
 pub stopAt-suc : (lent : LentStops) (i : ℕ) → stopAt lent (suc i) ≡ stopAt (afterFirst lent) i
 unfolding stopAt pointAt
@@ -54,6 +55,7 @@ stopAt-suc lent i =
       next (3 * suc i + 2) (3 * i + 2) (omega arith),
       one (lent .speeds),
       one (lent .blends),
+      one (lent .dwells),
     )
 
 -- ---- buffers made of stops
@@ -71,6 +73,10 @@ pub length-blendsOf : (ss : List Stop) → length (blendsOf ss) ≡ length ss
 unfolding blendsOf
 length-blendsOf ss = length-map ss (λ (s : Stop). s .blend)
 
+pub length-dwellsOf : (ss : List Stop) → length (dwellsOf ss) ≡ length ss
+unfolding dwellsOf
+length-dwellsOf ss = length-map ss (λ (s : Stop). s .dwell)
+
 -- a list of three is its three elements
 pub three-is : (l : List ℤ) → length l ≡ 3 → getD l 0 (pos 0) ∷ getD l 1 (pos 0) ∷ getD l 2 (pos 0) ∷ [] ≡ l
 three-is [] e = absurd (omega arith)
@@ -81,15 +87,16 @@ three-is (x ∷ y ∷ z ∷ w ∷ l) e = absurd (omega arith)
 
 -- buffers that begin with these stops
 abbrev pub begins : List Stop → LentStops → LentStops
-begins ss rest = record { coords = coordsOf ss ++ rest .coords; speeds = speedsOf ss ++ rest .speeds; blends = blendsOf ss ++ rest .blends }
+begins ss rest =
+    record { coords = coordsOf ss ++ rest .coords; speeds = speedsOf ss ++ rest .speeds; blends = blendsOf ss ++ rest .blends; dwells = dwellsOf ss ++ rest .dwells }
 
 first-stop : (s : Stop) (ss : List Stop) (rest : LentStops) → length (s .at) ≡ 3 → stopAt (begins (s ∷ ss) rest) 0 ≡ s
-unfolding coordsOf speedsOf blendsOf stopAt pointAt
+unfolding coordsOf speedsOf blendsOf dwellsOf stopAt pointAt
 first-stop s ss rest e =
-    ap (λ (l : List ℤ). record { at = l; speed = s .speed; blend = s .blend }) (three-is (s .at) e)
+    ap (λ (l : List ℤ). record { at = l; speed = s .speed; blend = s .blend; dwell = s .dwell }) (three-is (s .at) e)
 
 later-stop : (s : Stop) (ss : List Stop) (rest : LentStops) (i : ℕ) → stopAt (begins (s ∷ ss) rest) (suc i) ≡ stopAt (begins ss rest) i
-unfolding coordsOf speedsOf blendsOf
+unfolding coordsOf speedsOf blendsOf dwellsOf
 later-stop s ss rest i = stopAt-suc (begins (s ∷ ss) rest) i
 
 -- they give those stops where these are in range
@@ -102,14 +109,14 @@ first-begins (s ∷ ss) rest g =
     (tabulate-cong (length ss) (λ i. stopAt (begins (s ∷ ss) rest) (suc i)) (stopAt (begins ss rest)) (λ i h. later-stop s ss rest i)
     ∙ first-begins ss rest (and-right (inRange s) (allInRange ss) g)))
 
--- three buffers that stops were written over
-pub over-buffers : (ss : List Stop) (lent : LentStops) (coords : List ℤ) (speeds blends : List ℕ) → coords ≡ over (coordsOf ss) (lent .coords) → speeds ≡ over (speedsOf ss) (lent .speeds) → blends ≡ over (blendsOf ss) (lent .blends) → buffers coords speeds blends ≡ overStops ss lent
-over-buffers ss lent coords speeds blends c s b = rw (c, s, b)
+-- buffers that stops were written over
+pub over-buffers : (ss : List Stop) (lent : LentStops) (coords : List ℤ) (speeds blends dwells : List ℕ) → coords ≡ over (coordsOf ss) (lent .coords) → speeds ≡ over (speedsOf ss) (lent .speeds) → blends ≡ over (blendsOf ss) (lent .blends) → dwells ≡ over (dwellsOf ss) (lent .dwells) → buffers coords speeds blends dwells ≡ overStops ss lent
+over-buffers ss lent coords speeds blends dwells c s b d = rw (c, s, b, d)
 
 -- they hold those stops
 pub over-first : (ss : List Stop) (lent : LentStops) → allInRange ss ≡ true → firstStops (length ss) (overStops ss lent) ≡ ss
 over-first ss lent g =
-    first-begins ss (buffers (drop (length (coordsOf ss)) (lent .coords)) (drop (length (speedsOf ss)) (lent .speeds)) (drop (length (blendsOf ss)) (lent .blends))) g
+    first-begins ss (buffers (drop (length (coordsOf ss)) (lent .coords)) (drop (length (speedsOf ss)) (lent .speeds)) (drop (length (blendsOf ss)) (lent .blends)) (drop (length (dwellsOf ss)) (lent .dwells))) g
 
 -- ---- buffers made of lent stops are the first places of those buffers
 
@@ -134,6 +141,10 @@ speedsOf-first n lent h = map-tabulate (λ (s : Stop). s .speed) n (stopAt lent)
 pub blendsOf-first : (n : ℕ) (lent : LentStops) → n ≤ length (lent .blends) → blendsOf (firstStops n lent) ≡ take n (lent .blends)
 unfolding blendsOf stopAt
 blendsOf-first n lent h = map-tabulate (λ (s : Stop). s .blend) n (stopAt lent) ∙ tabulate-getD n (lent .blends) 0 h
+
+pub dwellsOf-first : (n : ℕ) (lent : LentStops) → n ≤ length (lent .dwells) → dwellsOf (firstStops n lent) ≡ take n (lent .dwells)
+unfolding dwellsOf stopAt
+dwellsOf-first n lent h = map-tabulate (λ (s : Stop). s .dwell) n (stopAt lent) ∙ tabulate-getD n (lent .dwells) 0 h
 
 -- ---- a list is in range exactly if each of its stops is
 
@@ -173,14 +184,20 @@ first-good n lent i g h =
 -- ---- what judging lent stops tells
 
 -- the places that the buffers have
-pub places : (n : ℕ) (lent : LentStops) → stopsFit n lent ≡ true → (3 * n ≤ length (lent .coords)) × (n ≤ length (lent .speeds)) × (n ≤ length (lent .blends))
+pub places : (n : ℕ) (lent : LentStops) → stopsFit n lent ≡ true → (3 * n ≤ length (lent .coords)) × (n ≤ length (lent .speeds)) × (n ≤ length (lent .blends)) × (n ≤ length (lent .dwells))
 unfolding stopsFit
 places n lent e =
     let points = leb (3 * n) (length (lent .coords)) in
     let speeds = leb n (length (lent .speeds)) in
     let blends = leb n (length (lent .blends)) in
-    let both : (points && speeds) ≡ true = and-left (points && speeds) blends e in
-    (leb-true _ _ (and-left points speeds both), leb-true _ _ (and-right points speeds both), leb-true _ _ (and-right (points && speeds) blends e))
+    let dwells = leb n (length (lent .dwells)) in
+    let three : (points && speeds && blends) ≡ true = and-left (points && speeds && blends) dwells e in
+    let two : (points && speeds) ≡ true = and-left (points && speeds) blends three in (
+      leb-true _ _ (and-left points speeds two),
+      leb-true _ _ (and-right points speeds two),
+      leb-true _ _ (and-right (points && speeds) blends three),
+      leb-true _ _ (and-right (points && speeds && blends) dwells e),
+    )
 
 pub judged-lent : (n : ℕ) (lent : LentStops) → number (judgeLent n lent) ≡ 0 → Judged n lent
 unfolding judgeLent judgeAll
@@ -192,6 +209,7 @@ judged-lent n lent e =
       coordinatePlaces = room .0;
       speedPlaces = room .1;
       blendPlaces = room .2;
+      dwellPlaces = room .3;
       inRange = passed (allInRange stops) outOfRange (gives stops) (omega arith) (fits .goes-on) .holds;
     }
 

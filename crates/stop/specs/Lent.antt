@@ -1,5 +1,5 @@
 -- Stops in lent buffers of numbers: the coordinates x, y, z of stop 0, then those of stop 1 and so on in one, the speeds in another,
--- the blends in a third ('k = 1, one speed place'). A definition takes the buffers as one record.
+-- the blends in a third, the dwells (M-102) in a fourth ('k = 1, one speed place'). A definition takes the buffers as one record.
 use mathlib.Core.Path.{_≡_}
 use mathlib.Core.Bool.{Bool, true, _&&_}
 use mathlib.Core.List.{List, [], _∷_, map}
@@ -20,21 +20,22 @@ pub record LentStops : Type 0 where
   pub coords : List ℤ
   pub speeds : List ℕ
   pub blends : List ℕ
+  pub dwells : List ℕ
 
-abbrev pub buffers : List ℤ → List ℕ → List ℕ → LentStops
-buffers coords speeds blends = record { coords = coords; speeds = speeds; blends = blends }
+abbrev pub buffers : List ℤ → List ℕ → List ℕ → List ℕ → LentStops
+buffers coords speeds blends dwells = record { coords = coords; speeds = speeds; blends = blends; dwells = dwells }
 
 -- what they hold when a call begins, of the parameters as an `ensures` has them
-abbrev pub lentStops : Signed → Unsigned → Unsigned → LentStops
-lentStops coords speeds blends = buffers (atEntry coords) (atEntry speeds) (atEntry blends)
+abbrev pub lentStops : Signed → Unsigned → Unsigned → Unsigned → LentStops
+lentStops coords speeds blends dwells = buffers (atEntry coords) (atEntry speeds) (atEntry blends) (atEntry dwells)
 
 -- and when it returns
-abbrev pub leftStops : Signed → Unsigned → Unsigned → LentStops
-leftStops coords speeds blends = buffers (atExit coords) (atExit speeds) (atExit blends)
+abbrev pub leftStops : Signed → Unsigned → Unsigned → Unsigned → LentStops
+leftStops coords speeds blends dwells = buffers (atExit coords) (atExit speeds) (atExit blends) (atExit dwells)
 
 -- what they hold, of the parameters as a `requires` has them
-abbrev pub heldStops : RefT (List ℤ) → RefT (List ℕ) → RefT (List ℕ) → LentStops
-heldStops coords speeds blends = buffers (coords .now) (speeds .now) (blends .now)
+abbrev pub heldStops : RefT (List ℤ) → RefT (List ℕ) → RefT (List ℕ) → RefT (List ℕ) → LentStops
+heldStops coords speeds blends dwells = buffers (coords .now) (speeds .now) (blends .now) (dwells .now)
 
 -- the coordinates of stop i; a number beyond a buffer's end counts as 0
 unfoldable pub pointAt : List ℤ → ℕ → List ℤ
@@ -42,7 +43,8 @@ pointAt coords i = getD coords (3 * i) (pos 0) ∷ getD coords (3 * i + 1) (pos 
 
 -- stop i of the buffers
 unfoldable pub stopAt : LentStops → ℕ → Stop
-stopAt lent i = record { at = pointAt (lent .coords) i; speed = getD (lent .speeds) i 0; blend = getD (lent .blends) i 0 }
+stopAt lent i =
+    record { at = pointAt (lent .coords) i; speed = getD (lent .speeds) i 0; blend = getD (lent .blends) i 0; dwell = getD (lent .dwells) i 0 }
 
 -- the stops 0 to n − 1 of the buffers
 abbrev pub firstStops : ℕ → LentStops → List Stop
@@ -59,9 +61,13 @@ speedsOf ss = map (λ (s : Stop). s .speed) ss
 unfoldable pub blendsOf : List Stop → List ℕ
 blendsOf ss = map (λ (s : Stop). s .blend) ss
 
+unfoldable pub dwellsOf : List Stop → List ℕ
+dwellsOf ss = map (λ (s : Stop). s .dwell) ss
+
 -- the buffers with these stops written over their fronts
 abbrev pub overStops : List Stop → LentStops → LentStops
-overStops ss lent = buffers (over (coordsOf ss) (lent .coords)) (over (speedsOf ss) (lent .speeds)) (over (blendsOf ss) (lent .blends))
+overStops ss lent =
+    buffers (over (coordsOf ss) (lent .coords)) (over (speedsOf ss) (lent .speeds)) (over (blendsOf ss) (lent .blends)) (over (dwellsOf ss) (lent .dwells))
 
 -- every stop of the list is in range
 unfoldable pub allInRange : List Stop → Bool
@@ -75,7 +81,7 @@ judgeAll ss = need (allInRange ss) outOfRange (gives ss)
 -- the buffers have places for n stops
 unfoldable pub stopsFit : ℕ → LentStops → Bool
 stopsFit n lent =
-    leb (3 * n) (length (lent .coords)) && leb n (length (lent .speeds)) && leb n (length (lent .blends))
+    leb (3 * n) (length (lent .coords)) && leb n (length (lent .speeds)) && leb n (length (lent .blends)) && leb n (length (lent .dwells))
 
 -- the first n lent stops, judged: 8 where a buffer is too short, then 6 in stop order
 unfoldable pub judgeLent : ℕ → LentStops → Outcome (List Stop)
@@ -86,4 +92,5 @@ pub record Judged (n : ℕ) (lent : LentStops) : Type 0 where
   pub coordinatePlaces : 3 * n ≤ length (lent .coords)
   pub speedPlaces : n ≤ length (lent .speeds)
   pub blendPlaces : n ≤ length (lent .blends)
+  pub dwellPlaces : n ≤ length (lent .dwells)
   pub inRange : allInRange (firstStops n lent) ≡ true

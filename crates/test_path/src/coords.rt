@@ -92,10 +92,11 @@ fn same(coords: &[i32]) -> bool {
     true
 }
 
-// Whether every place of the three lists of stops still holds 77.
-pub fn untouched(coords: &[i32], speeds: &[u16], blends: &[u16]) -> bool {
+// Whether every place of the four lists of stops still holds 77.
+pub fn untouched(coords: &[i32], speeds: &[u16], blends: &[u16], dwells: &[u16]) -> bool {
     let places = same(coords);
     let fast = count::all_numbers(speeds, 77);
     let blended = count::all_numbers(blends, 77);
-    places && fast && blended
+    let dwelling = count::all_numbers(dwells, 77);
+    places && fast && blended && dwelling
 }

@@ -11,10 +11,10 @@ pub fn rewrite(bytes: &[u8], version: u16, k: u16, wanted: u16, out: &mut [u8]) 
     writing::written_answer(written, out)
 }
 
-// `copy PATH LENGTH CHANGES VERSION K WANTED ROOM`: at most 53 bytes of room.
+// `copy PATH LENGTH CHANGES VERSION K WANTED ROOM`: at most 57 bytes of room.
 pub fn copy(line: &[u8]) {
     let bytes = sample::path(line);
-    let mut out = [77u8; 53];
+    let mut out = [77u8; 57];
     rewrite(
         part::bytes(&bytes, text::size(line, 3)),
         text::short(line, 5),

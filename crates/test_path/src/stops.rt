@@ -8,24 +8,30 @@ use test_support::text;
 use test_support::write;
 use times::MoveTime;
 
-// `stop X Y Z SPEED BLEND`
+// `stop X Y Z SPEED BLEND DWELL`
 pub fn stop(line: &[u8]) {
     let at = [
         coords::given(line, 2),
         coords::given(line, 3),
         coords::given(line, 4),
     ];
-    let made = Stop::new(at, text::short(line, 5), text::short(line, 6));
+    let made = Stop::new(
+        at,
+        text::short(line, 5),
+        text::short(line, 6),
+        text::short(line, 7),
+    );
     let s = made.stop;
     let at = s.at;
     write::value(b": ", test_support::wide(made.refused));
     coords::list(b", stop", &at);
     write::number(test_support::wide(s.speed));
     write::number(test_support::wide(s.blend));
+    write::number(test_support::wide(s.dwell));
     io::write_all(1, b"\n");
 }
 
-// The stop from which a move leads, the first five numbers.
+// The stop from which a move leads, the first six numbers.
 fn from(line: &[u8]) -> Stop {
     Stop {
         at: [
@@ -35,23 +41,25 @@ fn from(line: &[u8]) -> Stop {
         ],
         speed: text::short(line, 5),
         blend: text::short(line, 6),
+        dwell: text::short(line, 7),
     }
 }
 
-// The stop to which it leads, the last five.
+// The stop to which it leads, the last six.
 fn to(line: &[u8]) -> Stop {
     Stop {
         at: [
-            coords::given(line, 7),
             coords::given(line, 8),
             coords::given(line, 9),
+            coords::given(line, 10),
         ],
-        speed: text::short(line, 10),
-        blend: text::short(line, 11),
+        speed: text::short(line, 11),
+        blend: text::short(line, 12),
+        dwell: text::short(line, 13),
     }
 }
 
-// `move X Y Z SPEED BLEND X Y Z SPEED BLEND`
+// `move X Y Z SPEED BLEND DWELL X Y Z SPEED BLEND DWELL`
 pub fn moved(line: &[u8]) {
     let time = times::move_time(from(line), to(line));
     match time {

@@ -1,4 +1,4 @@
-// What is written: each draw, and the whole reading. A stop is written as the 16 bytes that its record of version 5 holds.
+// What is written: each draw, and the whole reading. A stop is written as the 18 bytes that its record of version 6 holds.
 use path::HEAD_SIZE;
 use path::PathRead;
 use reader::Drawn;
@@ -8,7 +8,7 @@ use test_support::write;
 // Where the content of the one stop of a path begins and ends: after the head, its length and its kind, before the end record.
 const FIRST: usize = HEAD_SIZE + 4;
 
-const AFTER: usize = FIRST + 16;
+const AFTER: usize = FIRST + 18;
 
 // A number.
 pub fn number(n: usize) {
@@ -20,8 +20,9 @@ fn stop(s: Stop) {
     let coords = s.at;
     let speeds = [s.speed];
     let blends = [s.blend];
+    let dwells = [s.dwell];
     let mut out = [0u8; AFTER + 4];
-    path::write_path(5, 0, &coords, &speeds, &blends, &mut out);
+    path::write_path(6, 0, &coords, &speeds, &blends, &dwells, &mut out);
     io::write_all(1, b" ");
     write::hex(b"", &out[FIRST..AFTER]);
 }
@@ -66,20 +67,27 @@ pub fn numbered(bytes: &[u8], highest: u16, first: usize, end: usize) {
 }
 
 // The first stops of the buffers.
-fn stops(count: usize, coords: &[i32], speeds: &[u16], blends: &[u16]) {
+fn stops(count: usize, coords: &[i32], speeds: &[u16], blends: &[u16], dwells: &[u16]) {
     for i in 0..4 {
         if i < count {
-            stop(stop::stop_at(coords, speeds, blends, i));
+            stop(stop::stop_at(coords, speeds, blends, dwells, i));
         }
     }
 }
 
 // The whole reading into these buffers.
-fn whole(bytes: &[u8], highest: u16, coords: &mut [i32], speeds: &mut [u16], blends: &mut [u16]) {
-    let read = path::read_path(bytes, highest, coords, speeds, blends);
+fn whole(
+    bytes: &[u8],
+    highest: u16,
+    coords: &mut [i32],
+    speeds: &mut [u16],
+    blends: &mut [u16],
+    dwells: &mut [u16],
+) {
+    let read = path::read_path(bytes, highest, coords, speeds, blends, dwells);
     match read {
         PathRead::Read { version: _, k } => {
-            stops(base::stop_count(k), coords, speeds, blends);
+            stops(base::stop_count(k), coords, speeds, blends, dwells);
             io::write_all(1, b" end");
         }
         PathRead::Refused(n) => refusal(n),
@@ -91,12 +99,20 @@ pub fn both(bytes: &[u8], highest: u16) {
     let mut coords = [0i32; 12];
     let mut speeds = [0u16; 4];
     let mut blends = [0u16; 4];
+    let mut dwells = [0u16; 4];
     io::write_all(1, b"\n  draws:");
     draws(bytes, highest);
     io::write_all(1, b"\n  by number:");
     numbered(bytes, highest, 0, 7);
     io::write_all(1, b"\n  whole:");
-    whole(bytes, highest, &mut coords, &mut speeds, &mut blends);
+    whole(
+        bytes,
+        highest,
+        &mut coords,
+        &mut speeds,
+        &mut blends,
+        &mut dwells,
+    );
     io::write_all(1, b"\n");
 }
 

@@ -53,9 +53,9 @@ pub record TableIsMade (o : Outcome (List ℕ)) (before afterwards : List ℕ) (
   pub left : afterwards ≡ after o (λ table. table) before
 
 -- the same of the parameters of each call
-abbrev pub MakesTable : ℕ → Signed → Unsigned → Unsigned → Unsigned → TableMade → Type 0
-MakesTable k coords speeds blends table r =
-    TableIsMade (makeTable k (lentStops coords speeds blends) (length (atEntry table))) (atEntry table) (atExit table) r
+abbrev pub MakesTable : ℕ → Signed → Unsigned → Unsigned → Unsigned → Unsigned → TableMade → Type 0
+MakesTable k coords speeds blends dwells table r =
+    TableIsMade (makeTable k (lentStops coords speeds blends dwells) (length (atEntry table))) (atEntry table) (atExit table) r
 
 abbrev pub FillsTable : Unsigned → ℕ → ℕ → Unsigned → TableMade → Type 0
 FillsTable bytes version k table r =

@@ -72,14 +72,14 @@ fn judge_size(k: u16, size: usize) -> u16
 }
 
 // 0, or the number of the refusal for a table of `size` places.
-fn judge(k: u16, coords: &[i32], speeds: &[u16], blends: &[u16], size: usize) -> u16
-    ensures { λ r. ⌜ r ≡ number (makeTable k (lentStops coords speeds blends) size) ⌝ }
+fn judge(k: u16, coords: &[i32], speeds: &[u16], blends: &[u16], dwells: &[u16], size: usize) -> u16
+    ensures { λ r. ⌜ r ≡ number (makeTable k (lentStops coords speeds blends dwells) size) ⌝ }
 {
     let refused = judge_size(k, size);
     if refused != 0 {
         return refused;
     }
-    stop::judge_stops(base::stop_count(k), coords, speeds, blends)
+    stop::judge_stops(base::stop_count(k), coords, speeds, blends, dwells)
 }
 
 // Writes the time from stop `from` to stop `to` at from * n + to, for each two of the n = 2^k lent stops. Refused are k above 10
@@ -89,15 +89,16 @@ pub fn make_table(
     coords: &[i32],
     speeds: &[u16],
     blends: &[u16],
+    dwells: &[u16],
     table: &mut [u32],
 ) -> TableMade
-    ensures { λ r. ⌜ MakesTable k coords speeds blends table r ⌝ }
+    ensures { λ r. ⌜ MakesTable k coords speeds blends dwells table r ⌝ }
 {
-    let refused = judge(k, coords, speeds, blends, table.len());
+    let refused = judge(k, coords, speeds, blends, dwells, table.len());
     if refused != 0 {
         return TableMade::Refused(refused);
     }
-    fill::write_rows(base::stop_count(k), coords, speeds, blends, table);
+    fill::write_rows(base::stop_count(k), coords, speeds, blends, dwells, table);
     TableMade::Made
 }
 

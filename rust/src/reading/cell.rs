@@ -50,7 +50,7 @@ pub fn cell_rewrite(path: &[u8], highest: u16, version: u16, out: &mut [u8]) -> 
     answer(rewrite_job(path, highest, version, out))
 }
 
-/// 'Where a path is handed over too, its reading comes first; the version to be written is tested after that and need only be 4 or 5. ..
+/// 'Where a path is handed over too, its reading comes first; the version to be written is tested after that and need only be 4 or 5 (M-102: or 6). ..
 /// a rewritten path's output is tested last.'
 fn rewrite_job(path: &[u8], highest: u16, version: u16, out: &mut [u8]) -> Result<u64, u16> {
     let path = Path::read(path, highest, |k| k <= LARGEST_K)?;

@@ -1,8 +1,8 @@
-//! Document 01, 'Records' and 'Turned down': paths read and written.
+//! Document 01, 'Records' and 'Turned down', with document 02's M-102: paths read and written.
 
 use super::{
     records::{add, Due, Fields, Rest},
-    refusals::{put, require, BYTES_AFTER, LOST_BLEND, WRONG_SIZE, WRONG_VERSION},
+    refusals::{put, require, BYTES_AFTER, LOST_FIELD, WRONG_SIZE, WRONG_VERSION},
     stops::{check_stops, lent_stops, put_stops, stops_fit, Stop},
     tree::count,
 };
@@ -14,17 +14,33 @@ pub(super) struct Path {
     pub(super) stops: Vec<Stop>,
 }
 
-/// 'version not 4 or 5' is 4.
+/// M-102: 'The highest known version and the version to be written may be 4, 5 or 6, and 4 is now given for others.'
 pub(super) fn check_version(version: u16) -> Result<(), u16> {
-    require(version == 4 || version == 5, WRONG_VERSION)
+    require([4, 5, 6].contains(&version), WRONG_VERSION)
 }
 
-/// 'x, y, z 4 bytes each, speed 2; in version 5 also blend 2'; 'Version 4 reads as blend 0.'
+/// How many of a stop's fields x, y, z, speed, blend, dwell a record of a known version carries: 'in version 5 also blend'; M-102: 'Version 6
+/// stops carry, after the blend, a 2-byte dwell'.
+fn fields_of(version: u16) -> usize {
+    match version {
+        4 => 4,
+        5 => 5,
+        _ => 6,
+    }
+}
+
+/// 'x, y, z 4 bytes each, speed 2' and the later fields. 'Version 4 reads as blend 0.' M-102: 'Versions 4 and 5 read as dwell 0.'
 fn stop_of(mut fields: Fields, version: u16) -> Stop {
     let at = [fields.i32(), fields.i32(), fields.i32()];
     let speed = fields.u16();
-    let blend = if version == 5 { fields.u16() } else { 0 };
-    Stop { at, speed, blend }
+    let [blend, dwell] = [5, 6].map(|count| if fields_of(version) < count { 0 } else { fields.u16() });
+    Stop { at, speed, blend, dwell }
+}
+
+/// M-102: 'Number 13 covers any field not 0 that the version to be written lacks.'
+fn loses_nothing(stop: &Stop, version: u16) -> bool {
+    let later = [stop.blend, stop.dwell];
+    later[fields_of(version) - 4..].iter().all(|&field| field == 0)
 }
 
 /// 'Reading: highest known version first. .. In the head: version, k, then lent lengths (8).' Then every stop's record and its fields (6),
@@ -59,7 +75,7 @@ impl Path {
 
     /// The end of writing a path: '13, output (8)'. 'A lent output needs as many places as its result has.' Gives the count of bytes.
     pub(super) fn write(&self, out: &mut [u8]) -> Result<u64, u16> {
-        require(self.version == 5 || self.stops.iter().all(|stop| stop.blend == 0), LOST_BLEND)?;
+        require(self.stops.iter().all(|stop| loses_nothing(stop, self.version)), LOST_FIELD)?;
         let bytes = self.bytes();
         require(out.len() >= bytes.len(), WRONG_SIZE)?;
         put(&bytes, out);
@@ -72,10 +88,9 @@ impl Path {
         add(&mut file, Due::Path, &[&self.version.to_le_bytes(), &self.k.to_le_bytes()]);
         for stop in &self.stops {
             let [x, y, z] = stop.at.map(i32::to_le_bytes);
-            let (speed, blend) = (stop.speed.to_le_bytes(), stop.blend.to_le_bytes());
-            let fields: [&[u8]; 5] = [&x, &y, &z, &speed, &blend];
-            let count = if self.version == 5 { 5 } else { 4 };
-            add(&mut file, Due::Stop { version: self.version }, &fields[..count]);
+            let [speed, blend, dwell] = [stop.speed, stop.blend, stop.dwell].map(u16::to_le_bytes);
+            let fields: [&[u8]; 6] = [&x, &y, &z, &speed, &blend, &dwell];
+            add(&mut file, Due::Stop { version: self.version }, &fields[..fields_of(self.version)]);
         }
         add(&mut file, Due::End, &[]);
         file
@@ -83,18 +98,25 @@ impl Path {
 }
 
 /// Reads a path into lent buffers; gives the version and k.
-pub fn read_path(bytes: &[u8], highest: u16, coords: &mut [i32], speeds: &mut [u16], blends: &mut [u16]) -> Result<(u16, u16), u16> {
-    let path = Path::read(bytes, highest, |k| stops_fit(1 << k, coords, speeds, blends))?;
-    put_stops(&path.stops, coords, speeds, blends);
+pub fn read_path(
+    bytes: &[u8],
+    highest: u16,
+    coords: &mut [i32],
+    speeds: &mut [u16],
+    blends: &mut [u16],
+    dwells: &mut [u16],
+) -> Result<(u16, u16), u16> {
+    let path = Path::read(bytes, highest, |k| stops_fit(1 << k, coords, speeds, blends, dwells))?;
+    put_stops(&path.stops, coords, speeds, blends, dwells);
     Ok((path.version, path.k))
 }
 
 /// 'Writing a path: version, k, stops lent (8), 6 in stop order, 13, output (8).' Gives the count of bytes written.
-pub fn write_path(version: u16, k: u16, coords: &[i32], speeds: &[u16], blends: &[u16], out: &mut [u8]) -> Result<u64, u16> {
+pub fn write_path(version: u16, k: u16, coords: &[i32], speeds: &[u16], blends: &[u16], dwells: &[u16], out: &mut [u8]) -> Result<u64, u16> {
     check_version(version)?;
     let n = count(k)?;
-    require(stops_fit(n, coords, speeds, blends), WRONG_SIZE)?;
-    let stops = lent_stops(n, coords, speeds, blends);
+    require(stops_fit(n, coords, speeds, blends, dwells), WRONG_SIZE)?;
+    let stops = lent_stops(n, coords, speeds, blends, dwells);
     check_stops(&stops)?;
     Path { version, k, stops }.write(out)
 }

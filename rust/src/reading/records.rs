@@ -26,12 +26,13 @@ impl Due {
         }
     }
 
-    /// 'Length': 6; '16 or 18'; 2; 4; '10 + 2n'; '2 + ceil(n/8)'.
+    /// 'Length': 6; '16 or 18', and of version 6 20; 2; 4; '10 + 2n'; '2 + ceil(n/8)'.
     pub(super) fn length(self) -> usize {
         match self {
             Due::Path => 6,
+            Due::Stop { version: 4 } => 16,
             Due::Stop { version: 5 } => 18,
-            Due::Stop { .. } => 16,
+            Due::Stop { .. } => 20,
             Due::End => 2,
             Due::Order => 4,
             Due::Stops { n } => 10 + 2 * n,

@@ -1,4 +1,4 @@
-//! The refusals of document 01, 'Turned down', by number, and what every call does with its answer.
+//! The refusals of document 01, 'Turned down', and document 02 by number, and what every call does with its answer.
 
 /// 'fewer than 4 bytes left for a record, or fewer than its length claims'
 pub const CUT_OFF: u16 = 1;
@@ -6,7 +6,7 @@ pub const CUT_OFF: u16 = 1;
 pub const WRONG_LENGTH: u16 = 2;
 /// 'not the kind due here'
 pub const WRONG_KIND: u16 = 3;
-/// 'version not 4 or 5, or above the highest known; highest known not 4 or 5'
+/// 'version not 4 or 5, or above the highest known; highest known not 4 or 5'; M-102: 'may be 4, 5 or 6'
 pub const WRONG_VERSION: u16 = 4;
 /// 'k above 10, or an order file's k not the path's'; M-111: 'k goes up to 6, above that 5'
 pub const WRONG_K: u16 = 5;
@@ -24,8 +24,8 @@ pub const NOT_ALLOWED: u16 = 10;
 pub const WRONG_TOTAL: u16 = 11;
 /// 'a fork bit outside 1 to n−1 set, or bits not the order's'
 pub const WRONG_FORKS: u16 = 12;
-/// 'version 4 to be written, a blend not 0'
-pub const LOST_BLEND: u16 = 13;
+/// M-102: 'any field not 0 that the version to be written lacks'
+pub const LOST_FIELD: u16 = 13;
 
 /// The refusal of this number where the condition does not hold.
 pub(super) fn require(condition: bool, number: u16) -> Result<(), u16> {

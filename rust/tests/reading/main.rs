@@ -1,4 +1,4 @@
-//! The reading of document 01 by itself: the document's examples, each refusal of its table, and the sequence of the refusals. Nothing here
+//! The reading of the documents by itself: document 01's examples, each refusal of its table, and the sequence of the refusals. Nothing here
 //! calls the library.
 
 mod examples;
@@ -16,9 +16,13 @@ fn hex(text: &str) -> Vec<u8> {
     text.split_whitespace().map(|byte| u8::from_str_radix(byte, 16).expect("two hexadecimal digits")).collect()
 }
 
-/// 'the path of the 50 example': 'k = 2, x = 0, 30, 10, 20, speeds 100, rest 0', by hand, in version 4 and in version 5.
-const HEAD: [&str; 2] = ["06 00 01 00 04 00 02 00", "06 00 01 00 05 00 02 00"];
-const STOP: [&str; 2] = ["10 00 02 00 XX 00 00 00 00 00 00 00 00 00 00 00 64 00", "12 00 02 00 XX 00 00 00 00 00 00 00 00 00 00 00 64 00 00 00"];
+/// 'the path of the 50 example': 'k = 2, x = 0, 30, 10, 20, speeds 100, rest 0', by hand, in version 4, 5 and 6.
+const HEAD: [&str; 3] = ["06 00 01 00 04 00 02 00", "06 00 01 00 05 00 02 00", "06 00 01 00 06 00 02 00"];
+const STOP: [&str; 3] = [
+    "10 00 02 00 XX 00 00 00 00 00 00 00 00 00 00 00 64 00",
+    "12 00 02 00 XX 00 00 00 00 00 00 00 00 00 00 00 64 00 00 00",
+    "14 00 02 00 XX 00 00 00 00 00 00 00 00 00 00 00 64 00 00 00 00 00",
+];
 const XS: [&str; 4] = ["00", "1E", "0A", "14"];
 const END: &str = "02 00 03 00";
 
@@ -47,6 +51,7 @@ struct Run {
     coords: Vec<i32>,
     speeds: Vec<u16>,
     blends: Vec<u16>,
+    dwells: Vec<u16>,
     table: Vec<u32>,
     order: Vec<u16>,
     totals: Vec<u64>,
@@ -60,6 +65,7 @@ impl Run {
             coords: vec![77; 3 * n + 3],
             speeds: vec![77; n + 3],
             blends: vec![77; n + 3],
+            dwells: vec![77; n + 3],
             table: vec![77; n * n],
             order: vec![77; n + 3],
             totals: vec![77; 2 * n + 3],
@@ -67,16 +73,16 @@ impl Run {
         }
     }
     fn read(&mut self, bytes: &[u8], highest: u16) -> Result<(u16, u16), u16> {
-        read_path(bytes, highest, &mut self.coords, &mut self.speeds, &mut self.blends)
+        read_path(bytes, highest, &mut self.coords, &mut self.speeds, &mut self.blends, &mut self.dwells)
     }
     fn make(&mut self, k: u16) -> Result<(), u16> {
-        make_table(k, &self.coords, &self.speeds, &self.blends, &mut self.table)
+        make_table(k, &self.coords, &self.speeds, &self.blends, &self.dwells, &mut self.table)
     }
     fn plan(&mut self, k: u16) -> Result<u64, u16> {
         plan(k, &self.table, &mut self.order, &mut self.totals, &mut self.pivots)
     }
     fn write(&self, version: u16, k: u16, out: &mut [u8]) -> Result<u64, u16> {
-        write_path(version, k, &self.coords, &self.speeds, &self.blends, out)
+        write_path(version, k, &self.coords, &self.speeds, &self.blends, &self.dwells, out)
     }
     fn whole(&mut self, bytes: &[u8], highest: u16) -> Result<(u16, u16, u64), u16> {
         plan_path(bytes, highest, &mut self.table, &mut self.order, &mut self.totals, &mut self.pivots)

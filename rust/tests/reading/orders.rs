@@ -73,17 +73,18 @@ fn refusals_of_orders_with_tables() {
 /// The table's call: k, lengths, then 6; only the first n stops are looked at.
 #[test]
 fn refusals_of_the_table() {
-    let faults: [fn(&mut Run); 6] = [
+    let faults: [fn(&mut Run); 7] = [
         |run| run.coords[3] = 20_001,
         |run| run.coords[5] = i32::MIN,
         |run| run.speeds[1] = 0,
         |run| run.speeds[0] = 2_001,
         |run| run.blends[1] = 501,
         |run| run.blends[0] = 65_535,
+        |run| run.dwells[1] = 5_001,
     ];
     for (place, fault) in faults.iter().enumerate() {
         let mut run = Run::new(1);
-        (run.coords[6], run.speeds[2], run.blends[2]) = (20_001, 0, 501);
+        (run.coords[6], run.speeds[2], run.blends[2], run.dwells[2]) = (20_001, 0, 501, 5_001);
         assert_eq!(run.clone().make(1), Ok(()));
         fault(&mut run);
         let before = run.clone();

@@ -8,8 +8,8 @@ use Rattle.exports.proofs.ffi_read_path.Statement.{statement}
 use Rattle.exports.proofs.ffi_read_path.Tie as tie
 
 -- the call, from the place where the lent buffers have come back
-abbrev called : tie.After-slice-known4 → tie.After-read-path
-called c = c .before .before .before .before .before
+abbrev called : tie.After-slice-known6 → tie.After-read-path
+called c = c .before .before .before .before .before .before .before
 
 pub ffi-read-path-spec : {M : Type 1} → statement M
 unfolding said signed
@@ -25,7 +25,9 @@ ffi-read-path-spec =
     (λ c. search needs)
     (λ c. search needs)
     (λ c. search needs)
+    (λ c. search needs)
     (λ c. exported said _ _ _ _ (called (c .before .before .before .before .before) .read-path .ensures) (c .before .before .before .answer .given .1) _ (handed _ _ (c .value .ok) (c .value .ensures ∙ ap given (c .before .pack .ensures))))
+    (λ c. search needs)
     (λ c. search needs)
     (λ c. search needs)
     (λ c. search needs)

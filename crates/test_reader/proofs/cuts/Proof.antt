@@ -5,10 +5,10 @@ use Rattle.test_reader.proofs.cuts.Statement.{statement}
 use Rattle.test_reader.proofs.cuts.Tie as tie
 
 abbrev Inv-loop : tie.InvT-loop
-Inv-loop length₀ length = length ≤ 93
+Inv-loop length₀ length = length ≤ 101
 
 abbrev μ-loop : tie.MeasureT-loop
-μ-loop length₀ length = 93 - length
+μ-loop length₀ length = 101 - length
 
 pub cuts-spec : {M : Type 1} → statement M
 cuts-spec =

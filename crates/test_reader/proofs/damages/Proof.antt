@@ -5,10 +5,10 @@ use Rattle.test_reader.proofs.damages.Statement.{statement}
 use Rattle.test_reader.proofs.damages.Tie as tie
 
 abbrev Inv-loop : tie.InvT-loop
-Inv-loop at₀ at = at ≤ 92
+Inv-loop at₀ at = at ≤ 100
 
 abbrev μ-loop : tie.MeasureT-loop
-μ-loop at₀ at = 92 - at
+μ-loop at₀ at = 100 - at
 
 pub damages-spec : {M : Type 1} → statement M
 damages-spec =

@@ -12,7 +12,7 @@ use Rattle.times.proofs.make_table.Statement.{statement}
 use Rattle.times.proofs.make_table.Tie as tie
 
 -- once nothing was refused
-ok : (c : tie.Else1) → let a = c .before .before .before .before .before .args in number (makeTable (a .k) (heldStops (a .coords) (a .speeds) (a .blends)) (length (now (a .table)))) ≡ 0
+ok : (c : tie.Else1) → let a = c .before .before .before .before .before .before .args in number (makeTable (a .k) (heldStops (a .coords) (a .speeds) (a .blends) (a .dwells)) (length (now (a .table)))) ≡ 0
 ok c = sym (c .before .judge .ensures) ∙ c .if1 .left
 
 returns : tie.Need-returns

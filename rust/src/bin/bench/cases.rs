@@ -34,25 +34,25 @@ struct Case {
 const CASES: &[Case] = &[
     Case {
         name: "read_path",
-        call: |_| Call::ReadPath { highest: 5 },
-        paths: &[(6, 4), (6, 5), (10, 4), (10, 5)],
-        proved: |_, l| ffi::read_path(&l.bytes, 5, &mut l.coords, &mut l.speeds, &mut l.blends).map(|(_, k)| k.into()),
+        call: |_| Call::ReadPath { highest: 6 },
+        paths: &[(6, 4), (6, 5), (6, 6), (10, 4), (10, 5), (10, 6)],
+        proved: |_, l| ffi::read_path(&l.bytes, 6, &mut l.coords, &mut l.speeds, &mut l.blends, &mut l.dwells).map(|(_, k)| k.into()),
         plain: &[("indices", plain_read::<Indices>), ("chunks", plain_read::<Chunks>)],
     },
     Case {
         name: "make_table",
         call: |k| Call::MakeTable { k },
-        paths: &[(6, 5), (8, 5), (10, 5)],
-        proved: |k, l| ffi::make_table(k, &l.coords, &l.speeds, &l.blends, &mut l.table).map(|()| 0),
+        paths: &[(6, 6), (8, 6), (10, 6)],
+        proved: |k, l| ffi::make_table(k, &l.coords, &l.speeds, &l.blends, &l.dwells, &mut l.table).map(|()| 0),
         plain: &[
-            ("indices", |k, l| plain_times::make_table(k, &l.coords, &l.speeds, &l.blends, &mut l.table).map(|()| 0)),
-            ("slices", |k, l| plain_times::make_table_by_slices(k, &l.coords, &l.speeds, &l.blends, &mut l.table).map(|()| 0)),
+            ("indices", |k, l| plain_times::make_table(k, &l.coords, &l.speeds, &l.blends, &l.dwells, &mut l.table).map(|()| 0)),
+            ("slices", |k, l| plain_times::make_table_by_slices(k, &l.coords, &l.speeds, &l.blends, &l.dwells, &mut l.table).map(|()| 0)),
         ],
     },
     Case {
         name: "plan_path",
-        call: |_| Call::PlanPath { highest: 5 },
-        paths: &[(6, 5), (8, 5), (10, 5)],
+        call: |_| Call::PlanPath { highest: 6 },
+        paths: &[(6, 6), (8, 6), (10, 6)],
         proved: plan_path,
         plain: &[
             ("paper's order", plain_plan_path::<Columns<Checked>>),
@@ -76,9 +76,9 @@ const CASES: &[Case] = &[
     },
     Case {
         name: "cell_plan",
-        call: |_| Call::CellPlan { highest: 5 },
-        paths: &[(6, 5)],
-        proved: |_, l| value(ffi::cell_plan(&l.bytes, 5, &mut l.out)),
+        call: |_| Call::CellPlan { highest: 6 },
+        paths: &[(6, 6)],
+        proved: |_, l| value(ffi::cell_plan(&l.bytes, 6, &mut l.out)),
         plain: &[
             ("paper's order", plain_cell_plan::<Columns<Checked>>),
             ("rows by slices", plain_cell_plan::<Slices>),
@@ -87,22 +87,22 @@ const CASES: &[Case] = &[
     },
     Case {
         name: "cell_check",
-        call: |_| Call::CellCheck { highest: 5 },
-        paths: &[(6, 5)],
-        proved: |_, l| value(ffi::cell_check(&l.bytes, 5, &l.file)),
+        call: |_| Call::CellCheck { highest: 6 },
+        paths: &[(6, 6)],
+        proved: |_, l| value(ffi::cell_check(&l.bytes, 6, &l.file)),
         plain: &[
-            ("indices", |_, l| value(plain_jobs::cell_check::<Indices>(&l.bytes, 5, &l.file))),
-            ("chunks", |_, l| value(plain_jobs::cell_check::<Chunks>(&l.bytes, 5, &l.file))),
+            ("indices", |_, l| value(plain_jobs::cell_check::<Indices>(&l.bytes, 6, &l.file))),
+            ("chunks", |_, l| value(plain_jobs::cell_check::<Chunks>(&l.bytes, 6, &l.file))),
         ],
     },
     Case {
         name: "cell_rewrite",
-        call: |_| Call::CellRewrite { highest: 5, version: 5 },
-        paths: &[(6, 5)],
-        proved: |_, l| value(ffi::cell_rewrite(&l.bytes, 5, 5, &mut l.out)),
+        call: |_| Call::CellRewrite { highest: 6, version: 6 },
+        paths: &[(6, 6)],
+        proved: |_, l| value(ffi::cell_rewrite(&l.bytes, 6, 6, &mut l.out)),
         plain: &[
-            ("indices", |_, l| value(plain_jobs::cell_rewrite::<Indices>(&l.bytes, 5, 5, &mut l.out))),
-            ("chunks", |_, l| value(plain_jobs::cell_rewrite::<Chunks>(&l.bytes, 5, 5, &mut l.out))),
+            ("indices", |_, l| value(plain_jobs::cell_rewrite::<Indices>(&l.bytes, 6, 6, &mut l.out))),
+            ("chunks", |_, l| value(plain_jobs::cell_rewrite::<Chunks>(&l.bytes, 6, 6, &mut l.out))),
         ],
     },
 ];
@@ -113,19 +113,19 @@ fn value(result: i64) -> Result<u64, u16> {
 }
 
 fn plain_read<W: Way>(_: u16, l: &mut Lent<Heap>) -> Result<u64, u16> {
-    plain_path::read::<W>(&l.bytes, 5, &mut l.coords, &mut l.speeds, &mut l.blends).map(|(_, k)| k.into())
+    plain_path::read::<W>(&l.bytes, 6, &mut l.coords, &mut l.speeds, &mut l.blends, &mut l.dwells).map(|(_, k)| k.into())
 }
 
 #[rustfmt::skip]
 fn plan_path(_: u16, l: &mut Lent<Heap>) -> Result<u64, u16> {
     ffi::plan_path(
-        &l.bytes, 5, &mut l.table, &mut l.order, &mut l.totals, &mut l.pivots,
+        &l.bytes, 6, &mut l.table, &mut l.order, &mut l.totals, &mut l.pivots,
     )
     .map(|(_, _, total)| total)
 }
 
 fn plain_plan_path<S: Step>(_: u16, l: &mut Lent<Heap>) -> Result<u64, u16> {
-    plain_jobs::plan_path::<S>(&l.bytes, 5, &mut l.table, &mut l.order, &mut l.totals, &mut l.pivots).map(|(_, _, total)| total)
+    plain_jobs::plan_path::<S>(&l.bytes, 6, &mut l.table, &mut l.order, &mut l.totals, &mut l.pivots).map(|(_, _, total)| total)
 }
 
 /// A list's total, with every stop filled.
@@ -151,7 +151,7 @@ fn plain_filled_some<F: Fill>(k: u16, l: &mut Lent<Heap>) -> Result<u64, u16> {
 }
 
 fn plain_cell_plan<S: Step>(_: u16, l: &mut Lent<Heap>) -> Result<u64, u16> {
-    value(plain_jobs::cell_plan::<S>(&l.bytes, 5, &mut l.out))
+    value(plain_jobs::cell_plan::<S>(&l.bytes, 6, &mut l.out))
 }
 
 /// What a call took for one path, in microseconds.

@@ -34,7 +34,14 @@ returns-3 c = rw (le-ltb _ _ (c .before .before .if1 .left), ne-eqb _ _ (c .befo
 
 returns-4 : tie.Need-returns-4
 unfolding fieldOf
-returns-4 c = rw (le-ltb _ _ (c .before .before .if1 .left), ne-eqb _ _ (c .before .if2 .left), ne-eqb _ _ (c .if3 .left))
+returns-4 c =
+    rw (le-ltb _ _ (c .before .before .before .if1 .left), ne-eqb _ _ (c .before .before .if2 .left), ne-eqb _ _ (c .before .if3 .left), eq-eqb _ _ (c .if4 .taken))
+    (toZ-pos w64 _ (omega arith))
+
+returns-5 : tie.Need-returns-5
+unfolding fieldOf
+returns-5 c =
+    rw (le-ltb _ _ (c .before .before .before .if1 .left), ne-eqb _ _ (c .before .before .if2 .left), ne-eqb _ _ (c .before .if3 .left), ne-eqb _ _ (c .if4 .left))
 
 pub stop-field-spec : {M : Type 1} → statement M
 stop-field-spec =
@@ -48,4 +55,6 @@ stop-field-spec =
     returns-2
     (λ c. search needs)
     returns-3
-    returns-4)
+    (λ c. search needs)
+    returns-4
+    returns-5)

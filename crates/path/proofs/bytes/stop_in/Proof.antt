@@ -12,7 +12,9 @@ use mir.Val.{SFits, ofZ, toZ}
 use mir.ValLaws.{toZ-ofZ}
 use borrow.Author.Needs.{needs}
 use Rattle.records.specs.Field.{numberOf, signed}
-use Rattle.path.proofs.PlaceLaws.{size-range}
+use Rattle.records.specs.Record.{blendSince, dwellSince}
+use Rattle.path.specs.Local.{fieldSince}
+use Rattle.path.proofs.PlaceLaws.{size-range, size-blend, size-dwell}
 use Rattle.path.proofs.StopLaws.{same-stop}
 use Rattle.path.proofs.bytes.stop_in.Statement.{statement}
 use Rattle.path.proofs.bytes.stop_in.Tie as tie
@@ -23,7 +25,7 @@ held z fits e = toZ-ofZ w32 z fits ∙ e
 
 returns : tie.Need-returns
 returns c =
-    let read = c .before .before in
+    let read = c .before .before .before in
     let a = read .before .before .before .before .args in
     let at = a .at in
     let s = now (a .bytes) in
@@ -33,8 +35,9 @@ returns c =
     (held _ (record { sfits = read .before .before .coordinate-in .ok }) (read .before .before .coordinate-in .ensures))
     (held _ (record { sfits = read .before .coordinate-in2 .ok }) (read .before .coordinate-in2 .ensures ∙ coordinate 4))
     (held _ (record { sfits = read .coordinate-in3 .ok }) (read .coordinate-in3 .ensures ∙ coordinate 8))
-    (c .before .word16 .ensures ∙ ap (λ (l : List ℕ). numberOf (take 2 l)) (inner 12))
-    (c .blend-in .ensures)
+    (c .before .before .word16 .ensures ∙ ap (λ (l : List ℕ). numberOf (take 2 l)) (inner 12))
+    (c .before .field-since .ensures ∙ ap (fieldSince blendSince (a .version)) (inner 14))
+    (c .field-since2 .ensures ∙ ap (fieldSince dwellSince (a .version)) (inner 16))
 
 pub stop-in-spec : {M : Type 1} → statement M
 stop-in-spec =
@@ -47,5 +50,8 @@ stop-in-spec =
     (λ c κs. omega (arith, size-range (c .before .before .before .args .version) .0))
     (λ c. search needs)
     (λ c κs. omega (arith, size-range (c .before .before .before .before .args .version) .0))
-    (λ c κs. search needs)
+    (λ c. omega (arith, size-range (c .before .before .before .before .before .args .version) .0))
+    (λ c κs h. omega (arith, size-blend _ h))
+    (λ c. omega (arith, size-range (c .before .before .before .before .before .before .args .version) .0))
+    (λ c κs h. omega (arith, size-dwell _ h))
     returns)

@@ -1,15 +1,27 @@
--- `path::loses_field` meets its contract.
-use native.Mathlib.Omega.{arith}
-use borrow.Author.Tests.{lt-leb, le-leb}
+-- `path::loses_field` meets its contract: the blend or the dwell is lost.
+use mathlib.Core.Path.{_≡_}
+use mathlib.Core.Bool.{Bool, true, false}
+use borrow.Author.Needs.{needs}
+use Prim.Native.Nat.{ℕ}
+use Rattle.records.specs.Record.{blendSince, dwellSince}
+use Rattle.stop.specs.declared.Stop.{Stop}
+use Rattle.path.specs.Written.{losesField}
+use Rattle.path.specs.Local.{isLost}
 use Rattle.path.proofs.StopFields.{explicit-loss}
 use Rattle.path.proofs.output.loses_field.Statement.{statement}
 use Rattle.path.proofs.output.loses_field.Tie as tie
 
-returns : tie.Need-returns
-returns c = rw (explicit-loss, le-leb 5 (c .before .args .version) (c .if1 .taken))
+blend-lost : (version : ℕ) (s : Stop) (r : Bool) → r ≡ isLost blendSince version (s .blend) → r ≡ true → true ≡ losesField version s
+blend-lost version s r e t = rw (explicit-loss version s, ← e, t)
 
-returns-2 : tie.Need-returns-2
-returns-2 c = rw (explicit-loss, lt-leb 5 (c .before .before .args .version) (omega arith))
+blend-kept : (version : ℕ) (s : Stop) (r d : Bool) → r ≡ isLost blendSince version (s .blend) → r ≡ false → d ≡ isLost dwellSince version (s .dwell) → d ≡ losesField version s
+blend-kept version s r d e f k = rw (explicit-loss version s, ← e, f) k
 
 pub loses-field-spec : {M : Type 1} → statement M
-loses-field-spec = tie.close (tie.spec returns returns-2)
+loses-field-spec =
+    tie.close
+    (tie.spec
+    (λ c κs. search needs)
+    (λ c. blend-lost _ _ _ (c .before .is-lost .ensures) (c .if1 .taken))
+    (λ c κs. search needs)
+    (λ c. blend-kept _ _ _ _ (c .before .before .is-lost .ensures) (c .before .if1 .left) (c .is-lost2 .ensures)))

@@ -47,11 +47,11 @@ returns-2 : tie.Need-returns-2
 returns-2 c =
     let a = c .before .before .before .before .before .before .before .before .before .before .before .before .before .before .before .before .before .args in
     let size : c .before .before .before .before .before .before .before .before .before .before .before .before .before .before .before .stop-size .result ≡ stopSize (a .version) = c .before .before .before .before .before .before .before .before .before .before .before .before .before .before .before .stop-size .ensures in
-    let pace : 16 + length (paceBytes (a .version) (a .s .speed) (a .s .blend)) ≡ stopSize (a .version) = length-pace (a .version) (a .s .speed) (a .s .blend) in
+    let pace : 16 + length (paceBytes (a .version) (a .s .speed) (a .s .blend) (a .s .dwell)) ≡ stopSize (a .version) = length-pace (a .version) (a .s .speed) (a .s .blend) (a .s .dwell) in
     let point : length (pointBytes (a .s .at)) ≡ 12 = length-point (a .s .at) in
     let start : length (bytesOf 2 (recordLength 2 (a .version) 0) ++ bytesOf 2 2) ≡ 4 = rw (length-append, length-bytesOf, length-bytesOf) in
     rw stop-parts
-    (put-three (now (a .out)) (a .at) (bytesOf 2 (recordLength 2 (a .version) 0) ++ bytesOf 2 2) (pointBytes (a .s .at)) (paceBytes (a .version) (a .s .speed) (a .s .blend))
+    (put-three (now (a .out)) (a .at) (bytesOf 2 (recordLength 2 (a .version) 0) ++ bytesOf 2 2) (pointBytes (a .s .at)) (paceBytes (a .version) (a .s .speed) (a .s .blend) (a .s .dwell))
     (c .before .before .before .before .before .before .before .before .before .before .put-start .last .0) (c .before .before .before .before .before .before .put-point .last .0) _ (a .at + 4) (a .at + 16)
     (omega (arith, c .before .before .before .before .before .before .before .before .before .before .before .before .before .if2 .taken, c .before .before .before .before .before .before .before .before .before .before .before .before .before .before .if1 .left))
     (omega (arith, start))

@@ -15,7 +15,7 @@ use Rattle.path.proofs.read.judge_path.Tie as tie
 
 -- the lent buffers
 abbrev lent : tie.Else1 → LentStops
-lent c = let a = c .before .before .before .before .before .before .args in heldStops (a .coords) (a .speeds) (a .blends)
+lent c = let a = c .before .before .before .before .before .before .before .args in heldStops (a .coords) (a .speeds) (a .blends) (a .dwells)
 
 -- the test of their places, as it came out
 abbrev places : (c : tie.After-stops-fit) → c .stops-fit .result ≡ stopsFit (2 ^ c .before .before .before .before .judge-head .result .k) (lent (c .before .before))

@@ -1,4 +1,5 @@
 -- `path::stops_fit` meets its contract.
+use mathlib.Core.Bool.{and-false}
 use Prim.Native.Nat.{_*_}
 use native.Mathlib.Omega.{arith}
 use lib.ListN.{length}
@@ -16,13 +17,23 @@ returns-2 : tie.Need-returns-2
 unfolding stopsFit
 returns-2 c =
     let a = c .before .before .args in
-    rw (le-leb (3 * a .count) (length (now (a .coords))) (omega arith), lt-leb (a .count) (length (now (a .speeds))) (omega arith))
+    rw (lt-leb (a .count) (length (now (a .speeds))) (omega arith), and-false)
 
 returns-3 : tie.Need-returns-3
 unfolding stopsFit
 returns-3 c =
-    let a = c .before .before .args in
-    rw (le-leb (3 * a .count) (length (now (a .coords))) (omega arith), le-leb (a .count) (length (now (a .speeds))) (omega arith))
+    let a = c .before .before .before .args in
+    rw (lt-leb (a .count) (length (now (a .blends))) (omega arith), and-false)
+
+returns-4 : tie.Need-returns-4
+unfolding stopsFit
+returns-4 c =
+    let a = c .before .before .before .args in
+    rw (
+      le-leb (3 * a .count) (length (now (a .coords))) (omega arith),
+      le-leb (a .count) (length (now (a .speeds))) (omega arith),
+      le-leb (a .count) (length (now (a .blends))) (omega arith),
+    )
 
 pub stops-fit-spec : {M : Type 1} → statement M
-stops-fit-spec = tie.close (tie.spec returns returns-2 returns-3)
+stops-fit-spec = tie.close (tie.spec returns returns-2 returns-3 returns-4)

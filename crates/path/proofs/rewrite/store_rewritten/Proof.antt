@@ -10,7 +10,7 @@ use Rattle.base.proofs.Lists.{length-tabulate}
 use Rattle.path.specs.Path.{stopIn, stopsIn, stopSize}
 use Rattle.path.specs.Written.{stopsBytes}
 use Rattle.records.specs.Put.{put}
-use Rattle.path.proofs.PlaceLaws.{place-is}
+use Rattle.path.proofs.PlaceLaws.{place-is, largestStop}
 use Rattle.path.proofs.StoreLaws.{stored-path}
 use Rattle.path.proofs.WrittenLaws.{bytes-range, size-is}
 use Rattle.path.proofs.rewrite.store_rewritten.Statement.{statement}
@@ -25,7 +25,7 @@ product : (c : tie.After-stop-size) → let count = c .before .before .before .b
 product c = rw (counted (c .before .before .before .before .before .before .before .before .before .before), c .stop-size .ensures)
 
 -- and how large it is
-product-small : (c : tie.After-stop-size) → let count = c .before .before .before .before .before .before .before .before .before .before in count .stop-count .result * c .stop-size .result ≤ 20480
+product-small : (c : tie.After-stop-size) → let count = c .before .before .before .before .before .before .before .before .before .before in count .stop-count .result * c .stop-size .result ≤ 1024 * largestStop
 product-small c = let start = c .before .before .before .before .before .before .before .before .before .before .before .before .before in rw (product c) (bytes-range (start .args .wanted) (start .args .k) (start .pre .0))
 
 store-records-requires : tie.Need-store-records-requires

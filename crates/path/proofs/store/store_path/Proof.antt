@@ -11,28 +11,28 @@ use Rattle.stop.proofs.Lent.{length-first}
 use Rattle.path.specs.Path.{stopSize}
 use Rattle.path.specs.Written.{stopsBytes}
 use Rattle.records.specs.Put.{put}
-use Rattle.path.proofs.PlaceLaws.{place-is}
+use Rattle.path.proofs.PlaceLaws.{place-is, largestStop}
 use Rattle.path.proofs.StoreLaws.{stored-path}
 use Rattle.path.proofs.WrittenLaws.{bytes-range, size-is}
 use Rattle.path.proofs.store.store_path.Statement.{statement}
 use Rattle.path.proofs.store.store_path.Tie as tie
 
 -- as many stops as the code counts
-counted : (c : tie.After-stop-count) → c .stop-count .result ≡ 2 ^ c .before .before .before .before .args .k
-counted c = c .stop-count .ensures ∙ stopCount-pow _ (c .before .before .before .before .pre .0)
+counted : (c : tie.After-stop-count) → c .stop-count .result ≡ 2 ^ c .before .before .before .before .before .args .k
+counted c = c .stop-count .ensures ∙ stopCount-pow _ (c .before .before .before .before .before .pre .0)
 
 -- the place of the end record, as the code makes it
-product : (c : tie.After-stop-size) → let count = c .before .before .before .before .before .before .before .before .before .before in let a = count .before .before .before .before .args in count .stop-count .result * c .stop-size .result ≡ 2 ^ a .k * stopSize (a .version)
+product : (c : tie.After-stop-size) → let count = c .before .before .before .before .before .before .before .before .before .before in let a = count .before .before .before .before .before .args in count .stop-count .result * c .stop-size .result ≡ 2 ^ a .k * stopSize (a .version)
 product c = rw (counted (c .before .before .before .before .before .before .before .before .before .before), c .stop-size .ensures)
 
 -- and how large it is
-product-small : (c : tie.After-stop-size) → let count = c .before .before .before .before .before .before .before .before .before .before in count .stop-count .result * c .stop-size .result ≤ 20480
-product-small c = let start = c .before .before .before .before .before .before .before .before .before .before .before .before .before .before in rw (product c) (bytes-range (start .args .version) (start .args .k) (start .pre .0))
+product-small : (c : tie.After-stop-size) → let count = c .before .before .before .before .before .before .before .before .before .before in count .stop-count .result * c .stop-size .result ≤ 1024 * largestStop
+product-small c = let start = c .before .before .before .before .before .before .before .before .before .before .before .before .before .before .before in rw (product c) (bytes-range (start .args .version) (start .args .k) (start .pre .0))
 
 store-records-requires : tie.Need-store-records-requires
 store-records-requires c κs =
     let count = c .before .before .before .before .before in
-    let start = count .before .before .before .before in
+    let start = count .before .before .before .before .before in
     let a = start .args in
     rw (counted count) (omega (arith, place-is (a .version) (2 ^ a .k), size-is (a .version) (a .k), start .pre .1, c .before .before .before .put-head .kept .0))
 
@@ -41,7 +41,7 @@ returns c =
     let size = c .before .before .before in
     let stored = c .before .before .before .before .before .before .before in
     let count = stored .before .before .before .before .before .before in
-    let start = count .before .before .before .before in
+    let start = count .before .before .before .before .before in
     stored-path _ _ _ _ _ _ _ _ (length-first _ _) (start .pre .1) (ap (λ (n : ℕ). 8 + n) (product size))
     (stored .before .before .before .before .put-head .ensures)
     (stored .store-records .ensures ∙ rw (counted count))

@@ -15,15 +15,15 @@ use Rattle.path.proofs.store.store_records.Statement.{statement}
 use Rattle.path.proofs.store.store_records.Tie as tie
 
 abbrev Inv-loop : tie.InvT-loop
-Inv-loop version count coords speeds blends out₀ size i₀ out i =
-    (i ≤ count) × (out ≡ put out₀ 8 (stopsBytes version (tabulate i (stopAt (buffers coords speeds blends))))) × (length out ≡ length out₀)
+Inv-loop version count coords speeds blends dwells out₀ size i₀ out i =
+    (i ≤ count) × (out ≡ put out₀ 8 (stopsBytes version (tabulate i (stopAt (buffers coords speeds blends dwells))))) × (length out ≡ length out₀)
 
 abbrev μ-loop : tie.MeasureT-loop
-μ-loop version count coords speeds blends out₀ size i₀ out i = count - i
+μ-loop version count coords speeds blends dwells out₀ size i₀ out i = count - i
 
 -- room for the record of this turn
-room : (c : tie.In-loop Inv-loop μ-loop) → let size = c .before .before .stop-size .result in let a = c .before .before .before .before .before .before .args in 8 + (c .before .loop .i * size + size) ≤ length (now (a .out))
-room c = let start = c .before .before .before .before .before .before in record-room _ _ _ _ _ (c .before .before .stop-size .ensures) (c .loop-test .taken) (start .pre)
+room : (c : tie.In-loop Inv-loop μ-loop) → let size = c .before .before .stop-size .result in let a = c .before .before .before .before .before .before .before .args in 8 + (c .before .loop .i * size + size) ≤ length (now (a .out))
+room c = let start = c .before .before .before .before .before .before .before in record-room _ _ _ _ _ (c .before .before .stop-size .ensures) (c .loop-test .taken) (start .pre)
 
 loop-again : tie.Need-loop-again Inv-loop μ-loop
 loop-again c =
@@ -37,7 +37,7 @@ loop-again c =
 
 returns : tie.Need-returns Inv-loop μ-loop
 returns c =
-    let done : c .before .loop .i ≡ c .before .before .before .before .before .before .args .count = omega arith in
+    let done : c .before .loop .i ≡ c .before .before .before .before .before .before .before .args .count = omega arith in
     rw done at (c .before .loop .inv .1)
 
 pub store-records-spec : {M : Type 1} → statement M
@@ -47,7 +47,7 @@ store-records-spec =
     Inv-loop
     μ-loop
     (λ c κs. search needs)
-    (λ c. (omega arith, none-stored _ _ _ (c .before .before .before .before .pre), refl))
+    (λ c. (omega arith, none-stored _ _ _ (c .before .before .before .before .before .pre), refl))
     (λ c. omega (arith, room (c .before)))
     (λ c. omega (arith, room (c .before)))
     (λ c κs. search needs)

@@ -17,17 +17,17 @@ use Rattle.path.proofs.write.judge_write.Tie as tie
 
 -- the lent buffers
 abbrev lent : tie.Else1 → LentStops
-lent c = let a = c .before .before .before .before .args in heldStops (a .coords) (a .speeds) (a .blends)
+lent c = let a = c .before .before .before .before .before .args in heldStops (a .coords) (a .speeds) (a .blends) (a .dwells)
 
 -- the version is known
-known : (c : tie.Else1) → knownVersion (c .before .before .before .before .args .version) ≡ true
+known : (c : tie.Else1) → knownVersion (c .before .before .before .before .before .args .version) ≡ true
 known c = sym (c .before .known-version .ensures) ∙ not-false _ (c .if1 .left)
 
 -- as many stops as the code counts, and their number
-counted : (c : tie.After-stop-count) → c .stop-count .result ≡ 2 ^ c .before .before .before .before .before .before .args .k
+counted : (c : tie.After-stop-count) → c .stop-count .result ≡ 2 ^ c .before .before .before .before .before .before .before .args .k
 counted c = c .stop-count .ensures ∙ stopCount-pow _ (c .before .if2 .left)
 
-judged : (c : tie.After-judge-stops) → c .judge-stops .result ≡ number (judgeLent (2 ^ c .before .before .before .before .before .before .before .args .k) (lent (c .before .before .before)))
+judged : (c : tie.After-judge-stops) → c .judge-stops .result ≡ number (judgeLent (2 ^ c .before .before .before .before .before .before .before .before .args .k) (lent (c .before .before .before)))
 judged c = c .judge-stops .ensures ∙ ap (λ (n : ℕ). number (judgeLent n (lent (c .before .before .before)))) (counted (c .before))
 
 returns-3 : tie.Need-returns-3
@@ -39,7 +39,7 @@ returns-4 : tie.Need-returns-4
 returns-4 c =
     let stops = c .before .before .before in
     let tests = stops .before .before in
-    let a = tests .before .before .before .before .before .args in
+    let a = tests .before .before .before .before .before .before .args in
     let loses = c .before .loses-any .ensures ∙ ap (λ (n : ℕ). losesAny (a .version) (firstStops n (lent (tests .before)))) (counted (stops .before)) in
     c .judge-output .ensures
     ∙ ap (λ (l : Bool). number (judgeOutput l (a .version) (a .k) (a .room))) loses

@@ -13,10 +13,10 @@ use Rattle.path.proofs.write.loses_any.Statement.{statement}
 use Rattle.path.proofs.write.loses_any.Tie as tie
 
 abbrev Inv-loop : tie.InvT-loop
-Inv-loop version count coords speeds blends i₀ i = (i ≤ count) × ((j : ℕ) → j < i → losesField version (stopAt (buffers coords speeds blends) j) ≡ false)
+Inv-loop version count coords speeds blends dwells i₀ i = (i ≤ count) × ((j : ℕ) → j < i → losesField version (stopAt (buffers coords speeds blends dwells) j) ≡ false)
 
 abbrev μ-loop : tie.MeasureT-loop
-μ-loop version count coords speeds blends i₀ i = count - i
+μ-loop version count coords speeds blends dwells i₀ i = count - i
 
 returns : tie.Need-returns Inv-loop μ-loop
 returns c =
@@ -30,7 +30,7 @@ loop-again c =
 
 returns-2 : tie.Need-returns-2 Inv-loop μ-loop
 returns-2 c =
-    let done : c .before .loop .i ≡ c .before .before .before .before .args .count = omega arith in
+    let done : c .before .loop .i ≡ c .before .before .before .before .before .args .count = omega arith in
     sym (any-none _ _ _ (rw done at (c .before .loop .inv .1)))
 
 pub loses-any-spec : {M : Type 1} → statement M

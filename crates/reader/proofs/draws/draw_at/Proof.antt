@@ -15,7 +15,7 @@ use Rattle.path.specs.declared.Head.{Head}
 use Rattle.path.specs.Path.{readHead, anySize, stopPlace, stopSize}
 use Rattle.path.specs.Reading.{headGiven}
 use Rattle.path.proofs.JudgeLaws.{opened-by, head-facts}
-use Rattle.path.proofs.PlaceLaws.{size-range, place-is}
+use Rattle.path.proofs.PlaceLaws.{size-range, place-is, largestStop}
 use Rattle.reader.specs.Draws.{drawAnswer, drawOf, stopBefore, stepOf, stepAt}
 use Rattle.reader.specs.declared.Drawn.{Drawn}
 use Rattle.reader.proofs.StepLaws.{drawn-below, of-drawn, of-other, step-refused, step-head}
@@ -56,10 +56,10 @@ module _ {bytes : List ℕ} {at version : ℕ} {h : Head} {i n : ℕ} {d : Drawn
     below = omega (arith, drawn-below bytes (h .version) n i is-stop, count-is, pow-le-1024 (h .k) small)
 
     -- the next record's place is far below the largest number
-    near : (size : ℕ) → size ≡ stopSize (h .version) → (i + 1) * size ≤ 20480
+    near : (size : ℕ) → size ≡ stopSize (h .version) → (i + 1) * size ≤ 1024 * largestStop
     near size e =
         let few : i + 1 ≤ 1024 = omega (arith, below) in
-        let low : size ≤ 20 = omega (arith, size-range (h .version)) in
+        let low : size ≤ largestStop = omega (arith, size-range (h .version)) in
         mul-le-mul few low
 
     next : (size : ℕ) → size ≡ stopSize (h .version) → record { drawn = d; at = 8 + (i + 1) * size; version = h .version } ≡ stepAt bytes at version

@@ -5,10 +5,10 @@ use Rattle.test_reader.proofs.draw.stops.Statement.{statement}
 use Rattle.test_reader.proofs.draw.stops.Tie as tie
 
 abbrev Inv-loop : tie.InvT-loop
-Inv-loop count coords speeds blends i₀ i = i ≤ 4
+Inv-loop count coords speeds blends dwells i₀ i = i ≤ 4
 
 abbrev μ-loop : tie.MeasureT-loop
-μ-loop count coords speeds blends i₀ i = 4 - i
+μ-loop count coords speeds blends dwells i₀ i = 4 - i
 
 pub stops-spec : {M : Type 1} → statement M
 stops-spec =

@@ -17,21 +17,21 @@ use Rattle.times.proofs.fill.write_row.Statement.{statement}
 use Rattle.times.proofs.fill.write_row.Tie as tie
 
 abbrev Inv-loop : tie.InvT-loop
-Inv-loop n from coords speeds blends table₀ start a to₀ table to =
+Inv-loop n from coords speeds blends dwells table₀ start a to₀ table to =
     (to ≤ n)
     × (length table ≡ length table₀)
-    × (table ≡ written table₀ start (entryOf (firstStops n (buffers coords speeds blends)) from) to)
+    × (table ≡ written table₀ start (entryOf (firstStops n (buffers coords speeds blends dwells)) from) to)
 
 abbrev μ-loop : tie.MeasureT-loop
-μ-loop n from coords speeds blends table₀ start a to₀ table to = n - to
+μ-loop n from coords speeds blends dwells table₀ start a to₀ table to = n - to
 
 -- ---- landmarks: the function's start from the loop's place, the lent stops, and the row that is written
 
 abbrev start : tie.At-loop Inv-loop μ-loop → tie.Start Inv-loop μ-loop
-start c = c .before .before .before .before .before
+start c = c .before .before .before .before .before .before
 
 abbrev lent : tie.Start Inv-loop μ-loop → LentStops
-lent s = heldStops (s .args .coords) (s .args .speeds) (s .args .blends)
+lent s = heldStops (s .args .coords) (s .args .speeds) (s .args .blends) (s .args .dwells)
 
 abbrev row : tie.Start Inv-loop μ-loop → ℕ → ℕ
 row s = entryOf (firstStops (s .args .n) (lent s)) (s .args .from)
