@@ -101,6 +101,7 @@ pub enum Call {
     ReadPath { highest: u16 },
     WritePath { version: u16, k: u16 },
     MakeTable { k: u16 },
+    TableFrom { version: u16, k: u16 },
     Plan { k: u16 },
     PlanPath { highest: u16 },
     PlanFilled { k: u16 },
@@ -155,6 +156,7 @@ macro_rules! made_to {
             Call::MakeTable { k } => {
                 $module::make_table(k, &$l.coords, &$l.speeds, &$l.blends, &$l.dwells, &mut $l.table).map(|()| vec![])
             }
+            Call::TableFrom { version, k } => $module::table_from(&$l.bytes, version, k, &mut $l.table).map(|()| vec![]),
             Call::Plan { k } => $module::plan(k, &$l.table, &mut $l.order, &mut $l.totals, &mut $l.pivots).map(one),
             Call::PlanPath { highest } => {
                 $module::plan_path(&$l.bytes, highest, &mut $l.table, &mut $l.order, &mut $l.totals, &mut $l.pivots)

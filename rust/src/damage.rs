@@ -130,7 +130,7 @@ fn spoil_number(random: &mut Random, call: &mut Call) {
             }
         }
         Call::CellRewrite { highest, version } => *(if random.below(2) == 0 { highest } else { version }) = other,
-        Call::WritePath { version, k } => *(if random.below(2) == 0 { version } else { k }) = other,
+        Call::WritePath { version, k } | Call::TableFrom { version, k } => *(if random.below(2) == 0 { version } else { k }) = other,
         Call::MakeTable { k } | Call::Plan { k } | Call::PlanFilled { k } | Call::ForkBits { k } | Call::OrderOfBits { k } => *k = other,
         Call::Exchange { k } | Call::OrderTotal { k } | Call::WriteOrderFile { k } | Call::ReadOrderFile { k } => *k = other,
     }
@@ -165,7 +165,7 @@ fn spoil_content(random: &mut Random, lent: &mut Lent<Heap>) {
 pub fn spoil(random: &mut Random, call: &mut Call, lent: &mut Lent<Heap>) {
     let reads_path = matches!(
         call,
-        Call::ReadPath { .. } | Call::PlanPath { .. } | Call::Draw { .. } | Call::CellPlan { .. } | Call::CellCheck { .. } | Call::CellRewrite { .. }
+        Call::ReadPath { .. } | Call::TableFrom { .. } | Call::PlanPath { .. } | Call::Draw { .. } | Call::CellPlan { .. } | Call::CellCheck { .. } | Call::CellRewrite { .. }
     );
     let reads_file = matches!(call, Call::ReadOrderFile { .. } | Call::CellCheck { .. });
     match random.below(8) {

@@ -26,6 +26,7 @@ mod declared {
             dwells: *const u16, dwells_len: usize,
             table: *mut u32, table_len: usize,
         ) -> i64;
+        pub fn ffi_table_from(bytes: *const u8, bytes_len: usize, version: u16, k: u16, table: *mut u32, table_len: usize) -> i64;
         pub fn ffi_plan(
             k: u16, table: *const u32, table_len: usize,
             order: *mut u16, order_len: usize, totals: *mut u64, totals_len: usize, pivots: *mut u16, pivots_len: usize,
@@ -124,6 +125,11 @@ pub fn make_table(k: u16, coords: &[i32], speeds: &[u16], blends: &[u16], dwells
         )
     };
     done(result)
+}
+
+/// `times::table_from`.
+pub fn table_from(bytes: &[u8], version: u16, k: u16, table: &mut [u32]) -> Result<(), u16> {
+    done(unsafe { declared::ffi_table_from(bytes.as_ptr(), bytes.len(), version, k, table.as_mut_ptr(), table.len()) })
 }
 
 /// `planner::plan`: the total of the order that was written.

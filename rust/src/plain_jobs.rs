@@ -28,6 +28,15 @@ pub fn plan_path<S: Step>(
     Ok((version, k, plan::<S>(k, table, order, totals, pivots)?))
 }
 
+/// Path bytes to the table of their stops' travel times: k.
+pub fn path_table<W: Way>(bytes: &[u8], highest: u16, table: &mut [u32]) -> Result<u16, u16> {
+    let mut stops = [NOWHERE; 1024];
+    let fit = |k: u16| if k > 10 || table.len() != 1 << (2 * k) { Err(8) } else { Ok(()) };
+    let (_, k) = read_stops::<W>(bytes, highest, fit, &mut stops)?;
+    fill_table(&stops[..1 << k], table);
+    Ok(k)
+}
+
 /// A count of bytes, 0 for a good check, or the refusal's number made negative.
 fn signed(result: Result<usize, u16>) -> i64 {
     match result {

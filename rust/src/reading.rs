@@ -19,7 +19,7 @@ pub use draws::draw_number;
 pub use files::{read_order_file, write_order_file};
 pub use filled::{list_by_enumeration, list_by_groups, plan_filled};
 pub use orders::{exchange, fork_bits, order_of_bits, order_total};
-pub use paths::{read_path, write_path};
+pub use paths::{read_path, table_from, write_path};
 pub use plans::{plan, plan_path};
 pub use refusals::*;
 pub use stops::{make_table, travel_time, Stop};

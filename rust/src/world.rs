@@ -122,7 +122,7 @@ impl World {
     }
 
     /// Each call once, with numbers that suit this world.
-    pub fn calls(&self, random: &mut Random) -> [Call; 16] {
+    pub fn calls(&self, random: &mut Random) -> [Call; 17] {
         let k = self.k;
         let highest = self.version + random.below(u64::from(7 - self.version)) as u16;
         let version = 4 + random.below(3) as u16;
@@ -131,6 +131,7 @@ impl World {
             Call::ReadPath { highest },
             Call::WritePath { version, k },
             Call::MakeTable { k },
+            Call::TableFrom { version: self.version, k },
             Call::Plan { k },
             Call::PlanPath { highest },
             Call::PlanFilled { k },

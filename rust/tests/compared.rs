@@ -50,6 +50,7 @@ fn every_call_with_faults() {
     assert_eq!(seen.numbers("CellCheck"), [0, 1, 2, 3, 4, 5, 6, 7, 8, 9, 10, 11, 12]);
     assert_eq!(seen.numbers("WritePath"), [0, 4, 5, 6, 8, 13]);
     assert_eq!(seen.numbers("MakeTable"), [0, 5, 6, 8]);
+    assert_eq!(seen.numbers("TableFrom"), path);
     assert_eq!(seen.numbers("Plan"), [0, 5, 8]);
     for call in ["ForkBits", "OrderTotal", "WriteOrderFile"] {
         assert_eq!(seen.numbers(call), [0, 5, 8, 9, 10]);
@@ -182,6 +183,7 @@ fn with_number(call: Call, number: u16) -> Vec<Call> {
         Call::ReadPath { .. } => vec![Call::ReadPath { highest: number }],
         Call::WritePath { version, k } => vec![Call::WritePath { version: number, k }, Call::WritePath { version, k: number }],
         Call::MakeTable { .. } => vec![Call::MakeTable { k: number }],
+        Call::TableFrom { version, k } => vec![Call::TableFrom { version: number, k }, Call::TableFrom { version, k: number }],
         Call::Plan { .. } => vec![Call::Plan { k: number }],
         Call::PlanPath { .. } => vec![Call::PlanPath { highest: number }],
         Call::PlanFilled { .. } => vec![Call::PlanFilled { k: number }],

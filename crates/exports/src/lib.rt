@@ -25,7 +25,7 @@ ghost use Rattle.base.specs.Buffer.{atEntry};
 ghost use Rattle.path.specs.Draw.{drawAt};
 ghost use Rattle.path.specs.Reading.{ReadsPath, said as pathRead};
 ghost use Rattle.path.specs.Written.{WritesPath, said as pathWritten};
-ghost use Rattle.times.specs.Table.{MakesTable, said as tableMade};
+ghost use Rattle.times.specs.Table.{MakesTable, FillsTable, said as tableMade};
 ghost use Rattle.planner.specs.Plan.{PlansOrder, said as orderPlanned};
 ghost use Rattle.path_plan.specs.PathPlan.{PlansPath, said as pathPlanned};
 ghost use Rattle.filled.specs.Filled.{PlansList, said as listPlanned};
@@ -92,6 +92,18 @@ pub extern "C" fn ffi_make_table(
     ensures { λ r. ⌜ Exported (MakesTable k coords speeds blends dwells table) (λ a. signed nothing (tableMade a)) r ⌝ }
 {
     let answer = times::make_table(k, coords, speeds, blends, dwells, table);
+    match answer {
+        TableMade::Made => 0,
+        TableMade::Refused(number) => refusal(number),
+    }
+}
+
+// `times::table_from`: 0.
+#[no_mangle]
+pub extern "C" fn ffi_table_from(bytes: &[u8], version: u16, k: u16, table: &mut [u32]) -> i64
+    ensures { λ r. ⌜ Exported (FillsTable bytes version k table) (λ a. signed nothing (tableMade a)) r ⌝ }
+{
+    let answer = times::table_from(bytes, version, k, table);
     match answer {
         TableMade::Made => 0,
         TableMade::Refused(number) => refusal(number),

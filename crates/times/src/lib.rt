@@ -3,14 +3,15 @@
 //
 // No public function has a `requires`: bad input is refused by its number before the table is touched.
 
+mod column;
 mod fill;
 mod moves;
-mod path_rows;
 mod travel;
 
 use base::MAX_K;
 use base::WRONG_K;
 use base::WRONG_SIZE;
+use fill::Source;
 use path::judge_body;
 use path::stop_from;
 use stop::Stop;
@@ -98,7 +99,20 @@ pub fn make_table(
     if refused != 0 {
         return TableMade::Refused(refused);
     }
-    fill::write_rows(base::stop_count(k), coords, speeds, blends, dwells, table);
+    let source = Source {
+        lent: true,
+        version: 0,
+    };
+    fill::write_rows(
+        source,
+        base::stop_count(k),
+        &[],
+        coords,
+        speeds,
+        blends,
+        dwells,
+        table,
+    );
     TableMade::Made
 }
 
@@ -167,6 +181,19 @@ pub fn table_from(bytes: &[u8], version: u16, k: u16, table: &mut [u32]) -> Tabl
     if refused != 0 {
         return TableMade::Refused(refused);
     }
-    path_rows::write_path_rows(bytes, version, base::stop_count(k), table);
+    let source = Source {
+        lent: false,
+        version,
+    };
+    fill::write_rows(
+        source,
+        base::stop_count(k),
+        bytes,
+        &[],
+        &[],
+        &[],
+        &[],
+        table,
+    );
     TableMade::Made
 }

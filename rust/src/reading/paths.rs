@@ -3,7 +3,7 @@
 use super::{
     records::{add, Due, Fields, Rest},
     refusals::{put, require, BYTES_AFTER, LOST_FIELD, WRONG_SIZE, WRONG_VERSION},
-    stops::{check_stops, lent_stops, put_stops, stops_fit, Stop},
+    stops::{check_stops, lent_stops, put_stops, stops_fit, table_of, Stop},
     tree::count,
 };
 
@@ -119,4 +119,16 @@ pub fn write_path(version: u16, k: u16, coords: &[i32], speeds: &[u16], blends: 
     let stops = lent_stops(n, coords, speeds, blends, dwells);
     check_stops(&stops)?;
     Path { version, k, stops }.write(out)
+}
+
+/// The table of the stops of path bytes 'for a caller that has read their head', which gave the version and k: 'Every other call: k, lengths, contents'. The head's own 8
+/// bytes are not looked at again.
+pub fn table_from(bytes: &[u8], version: u16, k: u16, table: &mut [u32]) -> Result<(), u16> {
+    let n = count(k)?;
+    require(table.len() == n * n, WRONG_SIZE)?;
+    check_version(version)?;
+    let head = [6, 0, 1, 0, version as u8, 0, k as u8, 0];
+    let path = Path::read(&[&head[..], bytes.get(8..).unwrap_or(&[])].concat(), version, |_| true)?;
+    put(&table_of(&path.stops), table);
+    Ok(())
 }

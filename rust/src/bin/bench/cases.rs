@@ -50,6 +50,13 @@ const CASES: &[Case] = &[
         ],
     },
     Case {
+        name: "table_from",
+        call: |k| Call::TableFrom { version: 6, k },
+        paths: &[(6, 6), (8, 6), (10, 6)],
+        proved: |k, l| ffi::table_from(&l.bytes, 6, k, &mut l.table).map(|()| k.into()),
+        plain: &[("indices", plain_path_table::<Indices>), ("chunks", plain_path_table::<Chunks>)],
+    },
+    Case {
         name: "plan_path",
         call: |_| Call::PlanPath { highest: 6 },
         paths: &[(6, 6), (8, 6), (10, 6)],
@@ -114,6 +121,10 @@ fn value(result: i64) -> Result<u64, u16> {
 
 fn plain_read<W: Way>(_: u16, l: &mut Lent<Heap>) -> Result<u64, u16> {
     plain_path::read::<W>(&l.bytes, 6, &mut l.coords, &mut l.speeds, &mut l.blends, &mut l.dwells).map(|(_, k)| k.into())
+}
+
+fn plain_path_table<W: Way>(_: u16, l: &mut Lent<Heap>) -> Result<u64, u16> {
+    plain_jobs::path_table::<W>(&l.bytes, 6, &mut l.table).map(u64::from)
 }
 
 #[rustfmt::skip]

@@ -19,7 +19,8 @@ for x86-64 without extensions.";
 const CALLS: &str = "\
 Paths of 2^k stops whose fields take their whole range. `plan_path` leads from path bytes to the order. Plain Rust goes through the records by
 indices or takes them off the front as arrays (chunks); its `cell_check` makes no table and sums the n − 1 moves; the planner's ways are those
-below. `plan_filled` weighs one stop's candidates at a time or those of two neighbouring stops together.";
+below. `table_from` makes the table from path bytes.
+`plan_filled` weighs one stop's candidates at a time or those of two neighbouring stops together.";
 
 const PLANNER: &str = "\
 `planner::plan` for one table of random entries below 4,000,001 for each k. The paper's order goes through each stop's candidates, 'along rows'
