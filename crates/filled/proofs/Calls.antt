@@ -9,8 +9,8 @@ use lib.ListN.{length, getD}
 use Rattle.base.specs.Outcome.{Outcome, gives, giving, number, over}
 use Rattle.base.proofs.Outcome.{number-giving}
 use Rattle.tree.specs.Total.{entry, total}
-use Rattle.tree.specs.Wanted.{wanted}
-use Rattle.tree.proofs.Wanted.{length-wanted}
+use Rattle.tree.specs.Open.{wanted}
+use Rattle.tree.proofs.Open.{length-wanted}
 use Rattle.orders.specs.Allowed.{forksOf}
 use Rattle.orders.specs.Bits.{bitString}
 use Rattle.filled.specs.declared.ListPlanned.the-variants.{Done}

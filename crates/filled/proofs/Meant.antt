@@ -15,7 +15,7 @@ use Rattle.tree.specs.Order.{orderOf}
 use Rattle.tree.specs.Wanted.{backward}
 use Rattle.tree.proofs.Beside.{parity}
 use Rattle.tree.proofs.Bit.{shr-half, bit-ext, bit-zero}
-use Rattle.tree.proofs.Wanted.{backward-same}
+use Rattle.tree.proofs.Backward.{backward-same}
 use Rattle.orders.specs.Same.{alike}
 use Rattle.orders.specs.Allowed.{setCount, setGiving, forksOf}
 use Rattle.orders.specs.Bits.{onlyForks}

@@ -222,7 +222,7 @@ module _ (k : ℕ) (s : ℕ → Bool) (t : ℕ → ℕ → ℕ) where
     cell-codes p j b = go (tableAt k s t p j) refl
       where
         go : (y : Found (List ℕ)) → tableAt k s t p j ≡ y → Codes unreached (totalIn y) j (told (λ l. j) y)
-        go none e = refl
+        go none e = omega arith
         go (at c l) e = (refl, refl, omega (arith, cost-fits p j c l b e 0))
 
     -- THE LOOP OVER ALLOWED STOPS OF A ROW has the total and the last stop of what the scan finds

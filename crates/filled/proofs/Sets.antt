@@ -12,7 +12,7 @@ use Rattle.tree.specs.Wanted.{backward}
 use Rattle.tree.proofs.Link.{length-orderOf, getD-orderOf}
 use Rattle.tree.proofs.Sides.{orderOf-sides}
 use Rattle.tree.proofs.Theorem7.{stopIn-lt}
-use Rattle.tree.proofs.Wanted.{backward-length}
+use Rattle.tree.proofs.Backward.{backward-length}
 use Rattle.walks.specs.Places.{stopsTo}
 use Rattle.filled.specs.Lists.{keepFilled, listOf}
 use Rattle.filled.proofs.Arranged.{Arranged, countIn, arranged-length}

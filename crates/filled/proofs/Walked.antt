@@ -16,7 +16,7 @@ use Rattle.base.proofs.Outcome.{length-over}
 use Rattle.tree.specs.Neighbour.{inPlace}
 use Rattle.tree.specs.Total.{total}
 use Rattle.tree.specs.Wanted.{backward}
-use Rattle.tree.proofs.Wanted.{backward-length}
+use Rattle.tree.proofs.Backward.{backward-length}
 use Rattle.walks.specs.Best.{Found, at, step}
 use Rattle.walks.specs.Places.{stopsTo}
 use Rattle.walks.proofs.Best.{scan-back}

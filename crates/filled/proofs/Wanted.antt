@@ -1,6 +1,6 @@
 -- THE WANTED LIST of the plain enumeration over all sets of forks is what the table's last row holds; nothing else is preferred to all lists. With
 -- no empty stop it is the wanted order; with no filled stop it is empty.
-use mathlib.Core.Path.{_≡_, refl, sym, ap, ap₂, subst, _∙_}
+use mathlib.Core.Path.{_≡_, refl, sym, ap, subst, _∙_}
 use mathlib.Core.Bool.{Bool, true, false, cond}
 use mathlib.Core.List.{List, []}
 use mathlib.Core.Logic.{_≢_}
@@ -18,11 +18,14 @@ use Rattle.walks.proofs.Places.{earlier-lex, lex-earlier}
 use Rattle.tree.specs.Neighbour.{inPlace}
 use Rattle.tree.specs.Order.{orderOf}
 use Rattle.tree.specs.Total.{total}
-use Rattle.tree.specs.Wanted.{backward, preferred, better, bestOf, wanted}
+use Rattle.tree.specs.Wanted.{backward, preferred}
+use Rattle.tree.specs.Open.{wanted, Shortest}
+use Rattle.tree.proofs.Link.{length-orderOf}
 use Rattle.tree.proofs.Theorem7.{setOf, setOf-lt, setOf-even}
 use Rattle.tree.proofs.Theorem7 as seven
-use Rattle.tree.proofs.Wanted.{NotWorse, backward-same, backward-length}
-use Rattle.filled.specs.Lists.{keepFilled, listOf, bestList, wantedList, ShortestList}
+use Rattle.tree.proofs.Backward.{backward-same, backward-length}
+use Rattle.tree.proofs.Open.{shortest-wanted}
+use Rattle.filled.specs.Lists.{keepFilled, listOf, better, bestList, wantedList, ShortestList}
 use Rattle.filled.specs.Forks.{filledBelow}
 use Rattle.filled.specs.Moves.{movesForks}
 use Rattle.filled.specs.Table.{lastRow}
@@ -31,6 +34,10 @@ use Rattle.filled.proofs.Backward.{joined, joined-total}
 use Rattle.filled.proofs.Least.{Costed, lastRow-least}
 use Rattle.filled.proofs.Meant.{list-given}
 use Rattle.filled.proofs.Sets.{list-arranged, length-listOf, listOf-full, listOf-empty}
+
+-- o is preferred to u, or is the same
+abbrev NotWorse : (ℕ → ℕ → ℕ) → List ℕ → List ℕ → Type 0
+NotWorse t o u = AtMost (total t o) (backward o) (total t u) (backward u)
 
 -- what is not worse than another list of the same total stands before it in the rule for equals
 notWorse-first : (t : ℕ → ℕ → ℕ) (o u : List ℕ) → length u ≡ length o → NotWorse t o u → total t u ≡ total t o → u ≢ o
@@ -45,7 +52,7 @@ module _ (k : ℕ) (s : ℕ → Bool) where
     bestList-given : (m : ℕ) → (F : ℕ) × (listOf k s F ≡ bestList k s t m)
     unfolding bestList
     bestList-given zero = (0, refl)
-    bestList-given (suc m) = go (preferred t (listOf k s (2 * m)) (bestList k s t m)) (bestList-given m)
+    bestList-given (suc m) = go (preferred (total t) (listOf k s (2 * m)) (bestList k s t m)) (bestList-given m)
       where
         go : (b : Bool) → (F : ℕ) × (listOf k s F ≡ bestList k s t m) → (F : ℕ) × (listOf k s F ≡ cond b (listOf k s (2 * m)) (bestList k s t m))
         go true h = (2 * m, refl)
@@ -53,9 +60,9 @@ module _ (k : ℕ) (s : ℕ → Bool) where
 
     -- the better of two lists is not worse than either
     better-notWorse : (o u : List ℕ) → length o ≡ length u → NotWorse t (better t o u) o × NotWorse t (better t o u) u
-    better-notWorse o u e = go (preferred t o u) refl
+    better-notWorse o u e = go (preferred (total t) o u) refl
       where
-        go : (b : Bool) → preferred t o u ≡ b → NotWorse t (cond b o u) o × NotWorse t (cond b o u) u
+        go : (b : Bool) → preferred (total t) o u ≡ b → NotWorse t (cond b o u) o × NotWorse t (cond b o u) u
         go true h = (atMost-refl _ _, beforeb-true _ _ _ _ h)
         go false h = (beforeb-false _ _ _ _ (backward-length o ∙ e ∙ sym (backward-length u)) h, atMost-refl _ _)
 
@@ -158,14 +165,27 @@ module _ (k : ℕ) (s : ℕ → Bool) where
         let e : o ≡ wantedList k s t = backward-same o (wantedList k s t) f (atMost-antisym there back .1) in
         (e, h .summed ∙ ap (total t) e)
 
-    -- WITH NO EMPTY STOP it is the wanted order
+    -- WITH NO EMPTY STOP it is the wanted order: what is asked of both is the same
     pub wantedList-full : ((i : ℕ) → i < 2 ^ k → s i ≡ true) → wantedList k s t ≡ wanted k t
-    unfolding wantedList wanted bestList bestOf
-    wantedList-full h = go (2 ^ (2 ^ k - 1))
+    wantedList-full h = shortest-wanted k t (wantedList k s t) (total t (wantedList k s t)) shortest .0
       where
-        go : (m : ℕ) → bestList k s t m ≡ bestOf k t m
-        go zero = listOf-full k s h 0
-        go (suc m) = ap₂ (better t) (listOf-full k s h (2 * m)) (go m)
+        w : ShortestList k s t (wantedList k s t) (total t (wantedList k s t))
+        w = wantedList-shortest
+
+        long : length (wantedList k s t) ≡ 2 ^ k
+        long = sym (ap length (w .given)) ∙ ap length (listOf-full k s h (w .forks)) ∙ length-orderOf k (w .forks)
+
+        shortest : Shortest k t (wantedList k s t) (total t (wantedList k s t))
+        shortest = record {
+          forks = w .forks;
+          counted = refl;
+          given = sym (listOf-full k s h (w .forks)) ∙ w .given;
+          costs = w .summed;
+          least = λ F c. rw (listOf-full k s h F) at (w .least F);
+          first = λ F c e d.
+              let x : Earlier (length (wantedList k s t)) (inPlace (wantedList k s t)) (inPlace (orderOf k F)) = rw (listOf-full k s h F) at (w .first F) e d in
+              rw long at x;
+        }
 
     -- WITH NO FILLED STOP it is empty; its total is 0, since `total t []` is
     pub wantedList-empty : ((i : ℕ) → i < 2 ^ k → s i ≡ false) → wantedList k s t ≡ []

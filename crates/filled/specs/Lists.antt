@@ -10,7 +10,7 @@ use Rattle.walks.specs.Places.{Earlier}
 use Rattle.tree.specs.Neighbour.{inPlace}
 use Rattle.tree.specs.Order.{orderOf}
 use Rattle.tree.specs.Total.{total}
-use Rattle.tree.specs.Wanted.{better}
+use Rattle.tree.specs.Wanted.{preferred}
 
 -- the filled stops of a list
 unfoldable pub keepFilled : (ℕ → Bool) → List ℕ → List ℕ
@@ -20,6 +20,10 @@ keepFilled s (i ∷ o) = cond (s i) (i ∷ keepFilled s o) (keepFilled s o)
 -- 'Allowed orders are as before, then empties are left out': the list that the set F of exchanged forks gives
 abbrev pub listOf : ℕ → (ℕ → Bool) → ℕ → List ℕ
 listOf k s F = keepFilled s (orderOf k F)
+
+-- the preferred one of two lists
+abbrev pub better : (ℕ → ℕ → ℕ) → List ℕ → List ℕ → List ℕ
+better t o u = cond (preferred (total t) o u) o u
 
 -- the preferred one of the lists that the sets 0, 2, 4, .. 2 (m - 1) give. 'moves join neighbouring filled stops directly': a list's total is
 -- the sum over its own neighbours. 'ties judged on the list from its end': `better` prefers the smaller stop at the first difference there

@@ -17,8 +17,8 @@ use Rattle.times.specs.Table.{entryOf, tableOf, tableFrom, TableIsMade}
 use Rattle.times.specs.Table as times
 use Rattle.times.proofs.Table.{by-stops, accepted-path, square-table, when-made, made-when}
 use Rattle.tree.specs.Total.{entry, total}
-use Rattle.tree.specs.Wanted.{wanted}
-use Rattle.tree.proofs.Wanted.{wanted-allowed, length-wanted, wanted-shortest}
+use Rattle.tree.specs.Open.{wanted}
+use Rattle.tree.proofs.Open.{wanted-allowed, length-wanted, wanted-shortest}
 use Rattle.planner.specs.declared.Planned.{Planned}
 use Rattle.planner.specs.Plan.{planFits, planRoom, planOrder, OrderIsPlanned}
 use Rattle.orders.specs.Allowed.{isAllowed, forksOf}

@@ -20,8 +20,8 @@ use Rattle.path.proofs.WrittenLaws.{length-written, size-is, bytes-range, mostB
 use Rattle.times.specs.Table.{entryOf, tableOf}
 use Rattle.times.proofs.Table.{table-small}
 use Rattle.tree.specs.Total.{entry, total}
-use Rattle.tree.specs.Wanted.{wanted}
-use Rattle.tree.proofs.Wanted.{wanted-allowed, length-wanted, shortest-wanted}
+use Rattle.tree.specs.Open.{wanted}
+use Rattle.tree.proofs.Open.{wanted-allowed, length-wanted, shortest-wanted}
 use Rattle.orders.specs.Allowed.{isAllowed, forksOf}
 use Rattle.orders.specs.Bits.{bitString}
 use Rattle.orders.proofs.Allowed.{isAllowed-iff}

@@ -10,7 +10,7 @@ ghost use lib.ListN.{length};
 ghost use Rattle.base.specs.Outcome.{gives};
 ghost use Rattle.base.specs.Buffer.{atEntry, atExit};
 ghost use Rattle.tree.specs.Total.{entry};
-ghost use Rattle.tree.specs.Wanted.{wanted};
+ghost use Rattle.tree.specs.Open.{wanted};
 ghost use Rattle.order_file.specs.File.{fileFor, fileSize};
 ghost use Rattle.jobs.specs.Limit.{jobMaxK};
 ghost use Rattle.jobs.specs.Local.{Ready, FileIsLeft, fileAfterHead};

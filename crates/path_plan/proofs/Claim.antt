@@ -15,9 +15,9 @@ use Rattle.path.specs.Reading.{Heading, heading, readInto, stopRoom, said, Path
 use Rattle.times.specs.Table.{entryOf, tableOf}
 use Rattle.times.proofs.Table.{getD-table, accepted, square-table, when-made, made-when}
 use Rattle.tree.specs.Total.{entry, total}
-use Rattle.tree.specs.Wanted.{wanted, Shortest}
+use Rattle.tree.specs.Open.{wanted, Shortest}
 use Rattle.tree.proofs.Diagonal.{shortest-same, wanted-same}
-use Rattle.tree.proofs.Wanted.{wanted-shortest, length-wanted}
+use Rattle.tree.proofs.Open.{wanted-shortest, length-wanted}
 use Rattle.planner.specs.declared.Planned.the-variants.{Done}
 use Rattle.planner.specs.Plan.{planOrder, OrderIsPlanned}
 use Rattle.planner.specs.Plan as plan
@@ -60,7 +60,7 @@ table-wanted k ss e = wanted-same k (entry (2 ^ k) (tableOf ss)) (entryOf ss) (�
 -- and so is its total
 pub table-total : (k : ℕ) (ss : List Stop) → length ss ≡ 2 ^ k → total (entry (2 ^ k) (tableOf ss)) (wanted k (entry (2 ^ k) (tableOf ss))) ≡ total (entryOf ss) (wanted k (entryOf ss))
 table-total k ss e =
-    table-shortest k ss (wanted k (entry (2 ^ k) (tableOf ss))) _ e (wanted-shortest k (entry (2 ^ k) (tableOf ss))) .summed
+    table-shortest k ss (wanted k (entry (2 ^ k) (tableOf ss))) _ e (wanted-shortest k (entry (2 ^ k) (tableOf ss))) .costs
     ∙ ap (total (entryOf ss)) (table-wanted k ss e)
 
 -- an accepting planner leaves the wanted order by its table first, and answers its total

@@ -18,8 +18,8 @@ use Rattle.times.specs.Table.{entryOf, tableOf, tableFrom, TableIsMade}
 use Rattle.times.specs.Table as times
 use Rattle.times.proofs.Table.{by-stops, accepted-path, square-table, when-made, made-when}
 use Rattle.tree.specs.Total.{entry, total}
-use Rattle.tree.specs.Wanted.{wanted}
-use Rattle.tree.proofs.Wanted.{wanted-shortest, length-wanted}
+use Rattle.tree.specs.Open.{wanted}
+use Rattle.tree.proofs.Open.{wanted-shortest, length-wanted}
 use Rattle.planner.specs.Plan.{planRoom, planOrder, wantedPlan, cleared, OrderIsPlanned}
 use Rattle.planner.specs.Plan as plan
 use Rattle.planner.proofs.Judged.{Fit}

@@ -6,7 +6,7 @@ use Rattle.base.specs.Outcome.{gives}
 use Rattle.stop.specs.declared.Stop.{Stop}
 use Rattle.path.specs.Path.{path, readPath, anySize}
 use Rattle.times.specs.Table.{entryOf}
-use Rattle.tree.specs.Wanted.{Shortest}
+use Rattle.tree.specs.Open.{Shortest}
 
 -- 'with the travel times of the stops that the bytes mean, k up to 10': the bytes are a path of 2^k stops, and by the travel times
 -- between those stops the order is given by some set of forks, the total is the sum of its moves, no set of forks gives a smaller total,

@@ -8,7 +8,7 @@ use Rattle.base.specs.Buffer.{Unsigned, atEntry, atExit}
 use Rattle.path.specs.Path.{Path, readPath}
 use Rattle.times.specs.Table.{entryOf, tableOf}
 use Rattle.tree.specs.Total.{total}
-use Rattle.tree.specs.Wanted.{wanted}
+use Rattle.tree.specs.Open.{wanted}
 use Rattle.planner.specs.Plan.{planRoom, cleared}
 use Rattle.path_plan.specs.declared.PathPlanned.{PathPlanned}
 use Rattle.path_plan.specs.declared.PathPlanned.the-variants.{Done, Refused}

@@ -1,3 +1,3 @@
--- The planner: rows of totals and pivots, and what planning answers.
-pub mod Row
+-- The planner: halving the places, and what planning answers.
+pub mod Method
 pub mod Plan

@@ -1,11 +1,10 @@
 // The planner: the wanted order of 2^k stops, from a table of travel times (Algorithm 2 of document 000).
 //
 // No public function has a `requires`. The contract of `plan` cites `specs/Plan.antt` and, through it, the order that is wanted by
-// plain enumeration. The private modules hold the method: `choice` weighs candidates, `row` makes the rows of best totals and pivots, `halve`
-// halves the places by recursion.
-mod choice;
+// plain enumeration. The private module `halve` holds the method, halving the places by recursion, for any costs by place; the rows of best
+// totals are made by the crate `rows`. `plan` is the instance whose costs come from a table.
 mod halve;
-mod row;
+mod lent;
 
 ghost use mathlib.Core.Path.{_≡_};
 ghost use Rattle.base.specs.Outcome.{number};
@@ -56,13 +55,16 @@ pub fn plan(
         return Planned::Refused(refused);
     }
     let n = base::stop_count(k);
-    let total = halve::run(
+    let none = [0u8; 1];
+    let solved = halve::run(
+        rows::Costs { n },
         table,
-        n,
+        &table[..0],
+        &none[..0],
         &mut order[..n],
         &mut totals[..n + n],
         &mut pivots[..n + n],
         k as u32,
     );
-    Planned::Done(total)
+    Planned::Done(solved.total)
 }

@@ -7,7 +7,8 @@ use Rattle.walks.specs.Prefer.{lexb, beforeb}
 use Rattle.walks.specs.Places.{stopsTo}
 use Rattle.times.specs.Time.{gap, distance, counted, nearest, travel, time, timeBetween}
 use Rattle.times.specs.Table.{entryOf}
-use Rattle.tree.specs.Wanted.{wanted, bestOf, Shortest}
+use Rattle.tree.specs.Open.{Shortest}
+use Rattle.tree.specs.Wanted.{better, bestOf, found, orderIn, wanted}
 use Rattle.orders.specs.Same.{alike}
 use Rattle.orders.specs.Allowed.{someSet, isAllowed}
 use Rattle.starred_examples.specs.Example.{Example, Says, forkSet, isWanted, holds, allHold, Wrong, allTurnedDown}
@@ -16,7 +17,7 @@ use Rattle.starred_examples.proofs.Sound.{all-sound, all-turned-down}
 
 -- every starred example passes its test
 starred-hold : allHold starred ≡ true
-unfolding allHold holds isWanted forkSet alike isAllowed someSet wanted bestOf beforeb lexb stopsTo entryOf timeBetween time travel counted nearest distance gap
+unfolding allHold holds isWanted forkSet alike isAllowed someSet wanted found bestOf better orderIn beforeb lexb stopsTo entryOf timeBetween time travel counted nearest distance gap
 starred-hold = refl
 
 -- THE TEN STARRED EXAMPLES
@@ -25,7 +26,7 @@ examples d = all-sound starred d starred-hold
 
 -- each wrong answer fails it
 wrong-fail : allTurnedDown 2 fourStops wrongAnswers ≡ true
-unfolding allTurnedDown isWanted alike wanted bestOf beforeb lexb stopsTo entryOf timeBetween time travel counted nearest distance gap
+unfolding allTurnedDown isWanted alike wanted found bestOf better orderIn beforeb lexb stopsTo entryOf timeBetween time travel counted nearest distance gap
 wrong-fail = refl
 
 -- NONE OF THE WRONG ANSWERS MEETS DEMAND 3

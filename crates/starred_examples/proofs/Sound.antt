@@ -12,8 +12,8 @@ use Rattle.times.specs.Time.{distance, time}
 use Rattle.times.specs.Table.{entryOf}
 use Rattle.tree.specs.Order.{orderOf}
 use Rattle.tree.specs.Total.{entry, total}
-use Rattle.tree.specs.Wanted.{wanted, Shortest}
-use Rattle.tree.proofs.Wanted.{wanted-shortest, shortest-wanted}
+use Rattle.tree.specs.Open.{wanted, Shortest}
+use Rattle.tree.proofs.Open.{wanted-shortest, shortest-wanted}
 use Rattle.orders.specs.Same.{alike}
 use Rattle.orders.specs.Allowed.{isAllowed}
 use Rattle.base.proofs.Bools.{both}

@@ -9,7 +9,7 @@ use Rattle.times.specs.Time.{distance, time}
 use Rattle.times.specs.Table.{entryOf}
 use Rattle.tree.specs.Order.{orderOf, Allowed}
 use Rattle.tree.specs.Total.{entry, total}
-use Rattle.tree.specs.Wanted.{wanted, Shortest}
+use Rattle.tree.specs.Open.{wanted, Shortest}
 use Rattle.orders.specs.Same.{alike}
 use Rattle.orders.specs.Allowed.{isAllowed}
 

@@ -7,7 +7,15 @@ pub mod Link
 pub mod Xor
 pub mod Theorem7
 pub mod Sides
+pub mod Backward
+pub mod Enumerate
 pub mod Wanted
+pub mod Draws
+pub mod Last
+pub mod Compare
+pub mod Layers
+pub mod Open
+pub mod Moves
 pub mod Graph
 pub mod Diagonal
 pub mod Block

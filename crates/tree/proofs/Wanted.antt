@@ -1,143 +1,135 @@
--- The wanted order: it is allowed, no set of forks gives one that is preferred to it, and nothing else has that property. This is
--- demand 3 about the definitions.
+-- THE WANTED ORDER IS SHORTEST, AND NOTHING ELSE IS. The idea: what a counted set gives is a costed list, the order read from the last
+-- place back. 'Shortest' says of an order in words that its costed list is least among them; the enumeration finds a least one; and
+-- walks has it that only one is least.
 use mathlib.Core.Path.{_≡_, refl, sym, ap, subst, _∙_}
-use mathlib.Core.Bool.{Bool, true, false, cond}
+use mathlib.Core.Bool.{Bool, true}
 use mathlib.Core.List.{List}
 use mathlib.Core.Logic.{_≢_}
-use Prim.Native.Nat.{ℕ, zero, suc, _*_, _-_, _/_, _^_, _<_}
-use native.Mathlib.Nat.{pow-succ'}
+use Prim.Native.Nat.{ℕ, _^_}
 use native.Mathlib.Omega.{arith}
 use lib.ListN.{length}
-use lib.Pow.{pow-pos}
-use lib.Seq.{ext-getD}
+use Rattle.walks.specs.Best.{Found, none, at, Least}
+use Rattle.walks.specs.Places.{Earlier}
 use Rattle.walks.specs.Prefer.{Lex, AtMost, less, same, cheaper, smaller, Compared, former, even, latter}
-use Rattle.walks.specs.Places.{stopsTo, Earlier}
-use Rattle.walks.proofs.Prefer.{Trich, trich, below, equal, above, beforeb-true, beforeb-false, atMost-refl, atMost-trans, atMost-antisym, atMost-cost, before-total, lex-irrefl, lex-trans, lex-differ}
-use Rattle.walks.proofs.Places.{earlier-lex, lex-earlier, stops-alike, stops-length}
+use Rattle.walks.specs.Rows.{told}
+use Rattle.walks.proofs.Places.{earlier-lex, lex-earlier}
+use Rattle.walks.proofs.Prefer.{atMost-antisym, atMost-cost, before-total, lex-irrefl, lex-trans, lex-differ}
 use Rattle.tree.specs.Neighbour.{inPlace}
-use Rattle.tree.specs.Order.{orderOf, Allowed}
-use Rattle.tree.specs.Total.{total}
-use Rattle.tree.specs.Wanted.{backward, preferred, better, bestOf, wanted, Shortest}
+use Rattle.tree.specs.Order.{orderOf}
+use Rattle.tree.specs.Wanted.{backward}
 use Rattle.tree.proofs.Link.{length-orderOf}
-use Rattle.tree.proofs.Theorem7.{setOf, setOf-lt, setOf-even}
-use Rattle.tree.proofs.Theorem7 as seven
+use Rattle.tree.proofs.Backward.{backward-same}
+use Rattle.tree.specs.Wanted.{found, orderIn, wanted, Settled, Shortest}
+use Rattle.tree.proofs.Enumerate.{length-backward, Sound, Over, found-sound, found-over}
 
--- o is preferred to u, or is the same
-abbrev pub NotWorse : (ℕ → ℕ → ℕ) → List ℕ → List ℕ → Type 0
-NotWorse t o u = AtMost (total t o) (backward o) (total t u) (backward u)
+-- some counted set gives an order of cost c that reads back as l
+pub record Given (k : ℕ) (cost : List ℕ → ℕ) (ok : ℕ → Bool) (c : ℕ) (l : List ℕ) : Type 0 where
+  pub forks : ℕ
+  pub counted : ok forks ≡ true
+  pub costs : cost (orderOf k forks) ≡ c
+  pub reads : backward (orderOf k forks) ≡ l
 
--- two orders that read the same from the last place back are the same
-pub backward-same : (o u : List ℕ) → length o ≡ length u → backward o ≡ backward u → o ≡ u
-backward-same o u e h =
-    ext-getD 0 o u e (stops-alike (inPlace o) (inPlace u) (length o) (h ∙ ap (stopsTo (inPlace u)) (sym e)))
+module _ (k : ℕ) (cost : List ℕ → ℕ) (ok : ℕ → Bool) where
+  -- what a counted set gives
+  pub set-given : (F : ℕ) → ok F ≡ true → Given k cost ok (cost (orderOf k F)) (backward (orderOf k F))
+  set-given F t = record { forks = F; counted = t; costs = refl; reads = refl }
 
--- an order read back is as long
-pub backward-length : (o : List ℕ) → length (backward o) ≡ length o
-backward-length o = stops-length (inPlace o) (length o)
-
--- the better of two is not worse than either
-better-notWorse : (t : ℕ → ℕ → ℕ) (o u : List ℕ) → length o ≡ length u → NotWorse t (better t o u) o × NotWorse t (better t o u) u
-better-notWorse t o u e = go (preferred t o u) refl
-  where
-    go : (b : Bool) → preferred t o u ≡ b → NotWorse t (cond b o u) o × NotWorse t (cond b o u) u
-    go true h = (atMost-refl _ _, beforeb-true _ _ _ _ h)
-    go false h = (beforeb-false _ _ _ _ (backward-length o ∙ e ∙ sym (backward-length u)) h, atMost-refl _ _)
-
-module _ (k : ℕ) (t : ℕ → ℕ → ℕ) where
-  -- what the enumeration finds is given by a set of forks
-  bestOf-allowed : (m : ℕ) → Allowed k (bestOf k t m)
-  unfolding bestOf
-  bestOf-allowed zero = (0, refl)
-  bestOf-allowed (suc m) = go (preferred t (orderOf k (2 * m)) (bestOf k t m)) (bestOf-allowed m)
+  -- THE ENUMERATION FINDS THE LEAST THAT COUNTED SETS GIVE
+  pub found-least : Settled k ok → Least (Given k cost ok) (told backward (found k cost ok))
+  unfolding told
+  found-least fair = go (found k cost ok) (found-sound k cost ok) (λ F t. found-over k cost ok fair F t)
     where
-      go : (b : Bool) → Allowed k (bestOf k t m) → Allowed k (cond b (orderOf k (2 * m)) (bestOf k t m))
-      go true h = (2 * m, refl)
-      go false h = h
+      go : (x : Found (List ℕ)) → Sound k cost ok x → ((F : ℕ) → ok F ≡ true → Over k cost ok x (orderOf k F)) → Least (Given k cost ok) (told backward x)
+      go none s h = λ c l g. h (g .forks) (g .counted)
+      go (at c o) s h = (
+        record { forks = s .0; counted = s .1; costs = ap cost (s .2) ∙ sym (s .3); reads = ap backward (s .2) },
+        λ d m g. rw (g .costs, g .reads) at (h (g .forks) (g .counted)),
+      )
 
-  -- allowed orders are of one length
-  allowed-length : {o : List ℕ} → Allowed k o → length o ≡ 2 ^ k
-  allowed-length a = rw (← (a .1)) (length-orderOf k (a .0))
-
-  -- no set that was tried gives a preferred one
-  bestOf-least : (m j : ℕ) → j < m → NotWorse t (bestOf k t m) (orderOf k (2 * j))
-  unfolding bestOf
-  bestOf-least zero j b = absurd (omega arith)
-  bestOf-least (suc m) j b = go (trich j m) (λ h. bestOf-least m j h)
+  -- the words say that an order is least
+  pub shortest-least : {o : List ℕ} {c : ℕ} → Shortest k cost ok o c → Least (Given k cost ok) (at c (backward o))
+  shortest-least {o} {c} s = (
+    record { forks = s .forks; counted = s .counted; costs = ap cost (s .given) ∙ sym (s .costs); reads = ap backward (s .given) },
+    λ d m g. go g (before-total c (backward o) d m (long ∙ sym (rw (← (g .reads)) (length-backward k (g .forks))))),
+  )
     where
-      step : NotWorse t (better t (orderOf k (2 * m)) (bestOf k t m)) (orderOf k (2 * m)) × NotWorse t (better t (orderOf k (2 * m)) (bestOf k t m)) (bestOf k t m)
-      step = better-notWorse t (orderOf k (2 * m)) (bestOf k t m) (length-orderOf k (2 * m) ∙ sym (allowed-length (bestOf-allowed m)))
+      long : length (backward o) ≡ 2 ^ k
+      long = rw (← (s .given)) (length-backward k (s .forks))
 
-      go : Trich j m → (j < m → NotWorse t (bestOf k t m) (orderOf k (2 * j))) → NotWorse t (better t (orderOf k (2 * m)) (bestOf k t m)) (orderOf k (2 * j))
-      go (below h) ih = atMost-trans (step .1) (ih h)
-      go (equal h) ih = rw h (step .0)
-      go (above h) ih = absurd (omega arith)
+      o-long : length o ≡ 2 ^ k
+      o-long = rw (← (s .given)) (length-orderOf k (s .forks))
 
-  -- the wanted order is allowed
-  pub wanted-allowed : Allowed k (wanted k t)
-  unfolding wanted
-  wanted-allowed = bestOf-allowed (2 ^ (2 ^ k - 1))
+      go : {d : ℕ} {m : List ℕ} → Given k cost ok d m → Compared c (backward o) d m → AtMost c (backward o) d m
+      go g (former h) = less h
+      go g (even h l) = same h l
+      go g (latter (cheaper h)) = absurd (omega (arith, s .least (g .forks) (g .counted), g .costs))
+      go g (latter (smaller h l)) =
+          let u : List ℕ = orderOf k (g .forks) in
+          let l′ : Lex (backward u) (backward o) = rw (g .reads) l in
+          let apart : u ≢ o = λ x. lex-differ l′ (ap backward x) in
+          let first : Earlier (2 ^ k) (inPlace o) (inPlace u) = s .first (g .forks) (g .counted) (g .costs ∙ h) apart in
+          let before : Lex (backward o) (backward u) = rw (o-long, length-orderOf k (g .forks)) (earlier-lex (2 ^ k) (inPlace o) (inPlace u) first) in
+          absurd (lex-irrefl (backward o) (lex-trans before l′))
+
+  -- and back
+  pub least-shortest : {o : List ℕ} {c : ℕ} → length o ≡ 2 ^ k → Least (Given k cost ok) (at c (backward o)) → Shortest k cost ok o c
+  least-shortest {o} {c} e h = record {
+    forks = g .forks;
+    counted = g .counted;
+    given = gives;
+    costs = sym (g .costs) ∙ ap cost gives;
+    least = λ F t. atMost-cost (over F t);
+    first = λ F t. first F (over F t);
+  }
+    where
+      g : Given k cost ok c (backward o)
+      g = h .0
+
+      gives : orderOf k (g .forks) ≡ o
+      gives = backward-same (orderOf k (g .forks)) o (length-orderOf k (g .forks) ∙ sym e) (g .reads)
+
+      over : (F : ℕ) → ok F ≡ true → AtMost c (backward o) (cost (orderOf k F)) (backward (orderOf k F))
+      over F t = h .1 _ _ (set-given F t)
+
+      first : (F : ℕ) → AtMost c (backward o) (cost (orderOf k F)) (backward (orderOf k F)) → cost (orderOf k F) ≡ c → orderOf k F ≢ o
+          → Earlier (2 ^ k) (inPlace o) (inPlace (orderOf k F))
+      first F (less (cheaper x)) y d = absurd (omega arith)
+      first F (less (smaller x l)) y d = lex-earlier (2 ^ k) (inPlace o) (inPlace (orderOf k F)) (rw (e, length-orderOf k F) at l)
+      first F (same x l) y d = absurd (d (backward-same (orderOf k F) o (length-orderOf k F ∙ sym e) (sym l)))
+
+  -- only one order is shortest
+  pub shortest-unique : {o u : List ℕ} {c d : ℕ} → Shortest k cost ok o c → Shortest k cost ok u d → (o ≡ u) × (c ≡ d)
+  shortest-unique {o} {u} s r =
+      let x = shortest-least s in
+      let y = shortest-least r in
+      let e = atMost-antisym (x .1 _ _ (y .0)) (y .1 _ _ (x .0)) in
+      let a : length o ≡ 2 ^ k = rw (← (s .given)) (length-orderOf k (s .forks)) in
+      let b : length u ≡ 2 ^ k = rw (← (r .given)) (length-orderOf k (r .forks)) in
+      (backward-same o u (a ∙ sym b) (e .1), e .0)
+
+-- a set F counts
+module _ (k : ℕ) (cost : List ℕ → ℕ) (ok : ℕ → Bool) (fair : Settled k ok) (F : ℕ) (counts : ok F ≡ true) where
+  -- then an order is found: the wanted one, with its cost
+  pub found-wanted : found k cost ok ≡ at (cost (wanted k cost ok)) (wanted k cost ok)
+  unfolding wanted orderIn told
+  found-wanted = go (found k cost ok) (found-sound k cost ok) (found-least k cost ok fair)
+    where
+      go : (x : Found (List ℕ)) → Sound k cost ok x → Least (Given k cost ok) (told backward x) → x ≡ at (cost (orderIn x)) (orderIn x)
+      go none s h = absurd (h _ _ (set-given k cost ok F counts))
+      go (at c o) s h = ap (λ y. at y o) (s .3)
+
+  -- THE WANTED ORDER IS SHORTEST
+  pub wanted-shortest : Shortest k cost ok (wanted k cost ok) (cost (wanted k cost ok))
+  unfolding told
+  wanted-shortest =
+      let s : Sound k cost ok (at (cost (wanted k cost ok)) (wanted k cost ok)) = subst (Sound k cost ok) found-wanted (found-sound k cost ok) in
+      least-shortest k cost ok (rw (← (s .2)) (length-orderOf k (s .0)))
+      (subst (λ x. Least (Given k cost ok) (told backward x)) found-wanted (found-least k cost ok fair))
+
+  -- AND NOTHING ELSE IS
+  pub shortest-wanted : (o : List ℕ) (c : ℕ) → Shortest k cost ok o c → (o ≡ wanted k cost ok) × (c ≡ cost (wanted k cost ok))
+  shortest-wanted o c s = shortest-unique k cost ok s wanted-shortest
 
   -- it has n stops
-  pub length-wanted : length (wanted k t) ≡ 2 ^ k
-  length-wanted = allowed-length wanted-allowed
-
-  -- no set of forks gives an order that is preferred to it
-  pub wanted-least : (F : ℕ) → NotWorse t (wanted k t) (orderOf k F)
-  unfolding wanted
-  wanted-least F =
-      let S : ℕ = setOf k (orderOf k F) in
-      let n : ℕ = 2 ^ k in
-      let e : S ≡ 2 * (S / 2) = omega (arith, setOf-even k (orderOf k F)) in
-      let h : 2 ^ n ≡ 2 * 2 ^ (n - 1) = subst (λ x. 2 ^ x ≡ 2 * 2 ^ (n - 1)) (omega (arith, pow-pos k)) (pow-succ' 2 (n - 1)) in
-      let b : S / 2 < 2 ^ (n - 1) = omega (arith, setOf-lt k (orderOf k F)) in
-      let g : orderOf k (2 * (S / 2)) ≡ orderOf k F = rw (← e) (seven.backward k (orderOf k F) (seven.forward k F)) in
-      subst (NotWorse t (bestOf k t (2 ^ (n - 1)))) g (bestOf-least (2 ^ (n - 1)) (S / 2) b)
-
--- what is not worse than another order costs no more, and of equal cost stands before it in the rule for equals
-notWorse-first : (t : ℕ → ℕ → ℕ) (o u : List ℕ) (n : ℕ) → length o ≡ n → length u ≡ n → NotWorse t o u → total t u ≡ total t o → u ≢ o
-    → Earlier n (inPlace o) (inPlace u)
-notWorse-first t o u n e f (less (cheaper h)) c d = absurd (omega arith)
-notWorse-first t o u n e f (less (smaller h l)) c d = lex-earlier n (inPlace o) (inPlace u) (rw (← e) (rw (f ∙ sym e) at l))
-notWorse-first t o u n e f (same h l) c d = absurd (d (backward-same u o (f ∙ sym e) (sym l)))
-
--- THE WANTED ORDER MEETS DEMAND 3
-pub wanted-shortest : (k : ℕ) (t : ℕ → ℕ → ℕ) → Shortest k t (wanted k t) (total t (wanted k t))
-wanted-shortest k t = record {
-  forks = wanted-allowed k t .0;
-  given = wanted-allowed k t .1;
-  summed = refl;
-  least = λ F. atMost-cost (wanted-least k t F);
-  first = λ F. notWorse-first t (wanted k t) (orderOf k F) (2 ^ k) (length-wanted k t) (length-orderOf k F) (wanted-least k t F);
-}
-
--- what demand 3 asks, as the preference
-pub shortest-notWorse : (k : ℕ) (t : ℕ → ℕ → ℕ) (o : List ℕ) (c : ℕ) → Shortest k t o c → (F : ℕ) → NotWorse t o (orderOf k F)
-shortest-notWorse k t o c s F = go (before-total (total t o) (backward o) (total t u) (backward u) (backward-length o ∙ e ∙ sym (backward-length u ∙ f)))
-  where
-    u : List ℕ
-    u = orderOf k F
-
-    e : length o ≡ 2 ^ k
-    e = allowed-length k t (s .forks, s .given)
-
-    f : length u ≡ 2 ^ k
-    f = length-orderOf k F
-
-    go : Compared (total t o) (backward o) (total t u) (backward u) → NotWorse t o u
-    go (former h) = less h
-    go (even h l) = same h l
-    go (latter (cheaper h)) = absurd (omega (arith, s .least F, s .summed))
-    go (latter (smaller h l)) =
-        let apart : u ≢ o = λ x. lex-differ l (ap backward x) in
-        let before : Lex (stopsTo (inPlace o) (2 ^ k)) (stopsTo (inPlace u) (2 ^ k)) = earlier-lex (2 ^ k) (inPlace o) (inPlace u) (s .first F (h ∙ sym (s .summed)) apart) in
-        let first : Lex (backward o) (backward u) = rw (e, f) before in
-        absurd (lex-irrefl (backward o) (lex-trans first l))
-
--- AND NOTHING ELSE DOES
-pub shortest-wanted : (k : ℕ) (t : ℕ → ℕ → ℕ) (o : List ℕ) (c : ℕ) → Shortest k t o c → (o ≡ wanted k t) × (c ≡ total t (wanted k t))
-shortest-wanted k t o c s =
-    let w = wanted-allowed k t in
-    let there : NotWorse t o (wanted k t) = subst (NotWorse t o) (w .1) (shortest-notWorse k t o c s (w .0)) in
-    let back : NotWorse t (wanted k t) o = subst (NotWorse t (wanted k t)) (s .given) (wanted-least k t (s .forks)) in
-    let e : o ≡ wanted k t = backward-same o (wanted k t) (allowed-length k t (s .forks, s .given) ∙ sym (length-wanted k t)) (atMost-antisym there back .1) in
-    (e, s .summed ∙ ap (total t) e)
+  pub length-wanted : length (wanted k cost ok) ≡ 2 ^ k
+  length-wanted = let s = wanted-shortest in rw (← (s .given)) (length-orderOf k (s .forks))

@@ -6,3 +6,6 @@ pub mod Block
 pub mod Total
 pub mod Graph
 pub mod Wanted
+pub mod Draws
+pub mod Layers
+pub mod Open

@@ -1,5 +1,5 @@
--- A program keeps a cost as a number, and a number `inf` above all costs for 'no walk'. Its loop over the stops before then
--- needs no test for 'no walk'.
+-- A program keeps a cost as a number, and any number from `inf` on, above all costs, for 'no walk'. Its loop over the stops before then
+-- needs no test for 'no walk': what is added to such a number leaves it one.
 use mathlib.Core.Path.{_≡_, refl, sym, _∙_, ap, subst, subst₂, fun-ext}
 use mathlib.Core.Bool.{Bool, true, false, cond}
 use mathlib.Core.List.{List, _∷_}
@@ -17,11 +17,6 @@ use Rattle.walks.proofs.Prefer.{Trich, trich, below, equal, above}
 use Rattle.walks.specs.Rows.{told, costs, line, last, turn, loop, Codes}
 use Rattle.walks.specs.Walk.{Graph}
 
--- no number that stands for a cell is above inf
-pub codes-le : (inf v q : ℕ) (y : Found ℕ) → Codes inf v q y → v ≤ inf
-codes-le inf v q none h = omega arith
-codes-le inf v q (at c r) h = omega arith
-
 -- nothing to choose from
 keep-none : (y : Found ℕ) → keep y none ≡ y
 unfolding keep
@@ -34,11 +29,16 @@ pub turn-codes : (inf : ℕ) (y z : Found ℕ) (s : ℕ × ℕ) (a : Bool) (v q 
     → Codes inf ((turn a (v + w) q s) .0) ((turn a (v + w) q s) .1) (keep y (step a w (λ r. r) z))
 unfolding turn keep step
 turn-codes inf y z s false v q w h k b = rw keep-none h
-turn-codes inf y none s true v q w h k b = rw keep-none (go (ltb (v + w) (s .0)) refl)
+turn-codes inf none none s true v q w h k b = go (ltb (v + w) (s .0))
   where
-    go : (t : Bool) → ltb (v + w) (s .0) ≡ t → Codes inf ((cond t (v + w, q) s) .0) ((cond t (v + w, q) s) .1) y
+    go : (t : Bool) → inf ≤ (cond t (v + w, q) s) .0
+    go false = h
+    go true = omega (arith, k refl)
+turn-codes inf (at d r) none s true v q w h k b = go (ltb (v + w) (s .0)) refl
+  where
+    go : (t : Bool) → ltb (v + w) (s .0) ≡ t → Codes inf ((cond t (v + w, q) s) .0) ((cond t (v + w, q) s) .1) (at d r)
     go false e = h
-    go true e = absurd (omega (arith, ltb-true (v + w) (s .0) e, codes-le inf (s .0) (s .1) y h, k refl))
+    go true e = absurd (omega (arith, ltb-true (v + w) (s .0) e, k refl))
 turn-codes inf none (at c r) s true v q w h k b = go (ltb (v + w) (s .0)) refl (k refl)
   where
     go : (t : Bool) → ltb (v + w) (s .0) ≡ t → Codes inf v q (at c r)
@@ -59,7 +59,7 @@ pub loop-codes : (inf : ℕ) (f : ℕ → Found ℕ) (a : ℕ → Bool) (v q w :
     → Codes inf ((loop inf a (λ j. v j + w j) q k) .0) ((loop inf a (λ j. v j + w j) q k) .1)
     (scan (λ j. step (a j) (w j) (λ r. r) (f j)) k)
 unfolding loop scan
-loop-codes inf f a v q w zero h b = refl
+loop-codes inf f a v q w zero h b = omega arith
 loop-codes inf f a v q w (suc k) h b =
     turn-codes inf (scan (λ j. step (a j) (w j) (λ r. r) (f j)) k) (f k) (loop inf a (λ j. v j + w j) q k) (a k) (v k) (q k) (w k)
     (loop-codes inf f a v q w k (λ j i. h j (omega arith)) (λ j i. b j (omega arith))) (h k (omega arith)) (b k (omega arith))
@@ -89,7 +89,7 @@ first-row inf G m i h = go (G .may i)
   where
     go : (b : Bool) → Codes inf (cond b (G .start i) inf) i (first b (G .start i) i)
     go true = (refl, refl, h)
-    go false = refl
+    go false = omega arith
 
 -- the loop may hold the stop itself, and look up what is told of it afterwards
 loop-from : (inf : ℕ) (a : ℕ → Bool) (x q : ℕ → ℕ) (k : ℕ) → ((loop inf a x q k) .0 ≡ (loop inf a x (λ j. j) k) .0)
@@ -113,7 +113,7 @@ loop-from inf a x q (suc k) = go (a k) (loop inf a x q k) (loop inf a x (λ j. j
 -- what stands for a cell with what is told stands for it with what is looked up
 codes-from : (inf : ℕ) (a : ℕ → Bool) (x q : ℕ → ℕ) (k : ℕ) (y : Found ℕ) → Codes inf ((loop inf a x q k) .0) ((loop inf a x q k) .1) y
     → Codes inf ((loop inf a x (λ j. j) k) .0) (q ((loop inf a x (λ j. j) k) .1)) y
-codes-from inf a x q k none h = sym (loop-from inf a x q k .0) ∙ h
+codes-from inf a x q k none h = omega (arith, loop-from inf a x q k .0)
 codes-from inf a x q k (at c r) h =
     let f = loop-from inf a x q k in
     (sym (f .0) ∙ h .0, sym (f .1 (omega arith)) ∙ h .1, h .2)

@@ -1,7 +1,7 @@
--- What a program keeps of the best walks: a row with a cost and a pivot for each stop, with a number above all costs for 'no walk'.
+-- What a program keeps of the best walks: a row with a cost and a pivot for each stop, with numbers above all costs for 'no walk'.
 use mathlib.Core.Path.{_≡_}
 use mathlib.Core.Bool.{Bool, true, false, cond}
-use Prim.Native.Nat.{ℕ, _<_, zero, suc}
+use Prim.Native.Nat.{ℕ, _≤_, _<_, zero, suc}
 use lib.Dec.{ltb, leb}
 use Rattle.walks.specs.Best.{Found, none, at, scan, first, step}
 use Rattle.walks.specs.Walk.{Graph}
@@ -37,7 +37,7 @@ unfoldable pub loop : ℕ → (ℕ → Bool) → (ℕ → ℕ) → (ℕ → ℕ)
 loop inf a x q zero = (inf, 0)
 loop inf a x q (suc k) = turn (a k) (x k) (q k) (loop inf a x q k)
 
--- the number v, and q beside it, stand for a cell
+-- the number v, and q beside it, stand for a cell: 'no walk' is any number from inf on
 abbrev pub Codes : ℕ → ℕ → ℕ → Found ℕ → Type 0
-Codes inf v q none = v ≡ inf
+Codes inf v q none = inf ≤ v
 Codes inf v q (at c r) = (v ≡ c) × (q ≡ r) × (c < inf)

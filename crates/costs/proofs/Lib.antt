@@ -1,0 +1,8 @@
+-- Laws of costs.
+pub mod Held
+pub mod Other
+pub mod Placed
+pub mod Tour
+pub mod Slower
+pub mod Raised
+pub mod Bounds

@@ -1,0 +1,3 @@
+-- Costs of orders and tests of sets of forks, and their graphs.
+pub mod Costs
+pub mod Graphs

@@ -1,0 +1,41 @@
+-- What a call's numbers and lent slices mean as costs. Only the functions that read a cost look in here.
+use mathlib.Core.Path.{_≡_}
+use mathlib.Core.Bool.{true}
+use mathlib.Core.List.{List}
+use Prim.Native.Nat.{ℕ, _*_, _≤_}
+use denote.Ref.{RefT}
+use lib.ListN.{length}
+use Rattle.base.specs.Buffer.{Unsigned, atEntry}
+use Rattle.tree.specs.Total.{entry}
+use Rattle.rows.specs.declared.Costs.{Costs}
+use Rattle.rows.specs.Costing.{Costing}
+
+-- the slices that costs can come from: a table of moves, a table of places, a path's bytes; one that a call does not have is empty
+pub record Sources : Type 0 where
+  pub table : List ℕ
+  pub places : List ℕ
+  pub path : List ℕ
+
+-- what they hold, of the parameters as a `requires` has them
+abbrev pub heldSources : RefT (List ℕ) → RefT (List ℕ) → RefT (List ℕ) → Sources
+heldSources table places path = record { table = table .now; places = places .now; path = path .now }
+
+-- and as an `ensures` has them
+abbrev pub lentSources : Unsigned → Unsigned → Unsigned → Sources
+lentSources table places path = record { table = atEntry table; places = atEntry places; path = atEntry path }
+
+-- THE COSTS by a table of n rows: every stop may stand anywhere, the first costs nothing, a move takes its entry whatever its place
+unfoldable pub costsOf : Costs → Sources → Costing
+costsOf c s = record { stops = c .n; fits = λ p i. true; start = λ i. 0; weight = λ p. entry (c .n) (s .table) }
+
+-- the same of the parameters
+abbrev pub lentCosts : Costs → Unsigned → Unsigned → Unsigned → Costing
+lentCosts c table places path = costsOf c (lentSources table places path)
+
+abbrev pub heldCosts : Costs → RefT (List ℕ) → RefT (List ℕ) → RefT (List ℕ) → Costing
+heldCosts c table places path = costsOf c (heldSources table places path)
+
+-- the slices suffice for the costs
+pub record Readable (c : Costs) (s : Sources) : Type 0 where
+  pub small : c .n ≤ 1024
+  pub square : length (s .table) ≡ c .n * c .n
