@@ -103,6 +103,8 @@ pub enum Call {
     MakeTable { k: u16 },
     TableFrom { version: u16, k: u16 },
     Plan { k: u16 },
+    PlanWeighings { k: u16 },
+    Foretell { k: u16 },
     PlanPath { highest: u16 },
     PlanFilled { k: u16 },
     ForkBits { k: u16 },
@@ -158,6 +160,8 @@ macro_rules! made_to {
             }
             Call::TableFrom { version, k } => $module::table_from(&$l.bytes, version, k, &mut $l.table).map(|()| vec![]),
             Call::Plan { k } => $module::plan(k, &$l.table, &mut $l.order, &mut $l.totals, &mut $l.pivots).map(one),
+            Call::PlanWeighings { k } => $module::plan_weighings(k, &$l.table, &mut $l.order, &mut $l.totals, &mut $l.pivots).map(one),
+            Call::Foretell { k } => $module::foretell(k).map(|(bytes, weighings)| vec![one(bytes)[0], one(weighings)[0]]),
             Call::PlanPath { highest } => {
                 $module::plan_path(&$l.bytes, highest, &mut $l.table, &mut $l.order, &mut $l.totals, &mut $l.pivots)
                     .map(|(version, k, total)| vec![version.into(), k.into(), one(total)[0]])

@@ -131,7 +131,8 @@ fn spoil_number(random: &mut Random, call: &mut Call) {
         }
         Call::CellRewrite { highest, version } => *(if random.below(2) == 0 { highest } else { version }) = other,
         Call::WritePath { version, k } | Call::TableFrom { version, k } => *(if random.below(2) == 0 { version } else { k }) = other,
-        Call::MakeTable { k } | Call::Plan { k } | Call::PlanFilled { k } | Call::ForkBits { k } | Call::OrderOfBits { k } => *k = other,
+        Call::Plan { k } | Call::PlanWeighings { k } | Call::Foretell { k } => *k = other,
+        Call::MakeTable { k } | Call::PlanFilled { k } | Call::ForkBits { k } | Call::OrderOfBits { k } => *k = other,
         Call::Exchange { k } | Call::OrderTotal { k } | Call::WriteOrderFile { k } | Call::ReadOrderFile { k } => *k = other,
     }
 }

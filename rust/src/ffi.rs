@@ -31,6 +31,12 @@ mod declared {
             k: u16, table: *const u32, table_len: usize,
             order: *mut u16, order_len: usize, totals: *mut u64, totals_len: usize, pivots: *mut u16, pivots_len: usize,
         ) -> i64;
+        pub fn ffi_plan_weighings(
+            k: u16, table: *const u32, table_len: usize,
+            order: *mut u16, order_len: usize, totals: *mut u64, totals_len: usize, pivots: *mut u16, pivots_len: usize,
+        ) -> i64;
+        pub fn ffi_foretell_bytes(k: u16) -> i64;
+        pub fn ffi_foretell_weighings(k: u16) -> i64;
         pub fn ffi_plan_path(
             bytes: *const u8, bytes_len: usize, highest: u16, table: *mut u32, table_len: usize,
             order: *mut u16, order_len: usize, totals: *mut u64, totals_len: usize, pivots: *mut u16, pivots_len: usize,
@@ -137,6 +143,19 @@ pub fn plan(k: u16, table: &[u32], order: &mut [u16], totals: &mut [u64], pivots
     let (order_len, totals_len, pivots_len) = (order.len(), totals.len(), pivots.len());
     let (order, totals, pivots) = (order.as_mut_ptr(), totals.as_mut_ptr(), pivots.as_mut_ptr());
     answer(unsafe { declared::ffi_plan(k, table.as_ptr(), table.len(), order, order_len, totals, totals_len, pivots, pivots_len) })
+}
+
+/// `planner::plan`: the number of weighings.
+pub fn plan_weighings(k: u16, table: &[u32], order: &mut [u16], totals: &mut [u64], pivots: &mut [u16]) -> Result<u64, u16> {
+    let (order_len, totals_len, pivots_len) = (order.len(), totals.len(), pivots.len());
+    let (order, totals, pivots) = (order.as_mut_ptr(), totals.as_mut_ptr(), pivots.as_mut_ptr());
+    answer(unsafe { declared::ffi_plan_weighings(k, table.as_ptr(), table.len(), order, order_len, totals, totals_len, pivots, pivots_len) })
+}
+
+/// `planner::foretell`: the bytes of lent work space, and the weighings.
+pub fn foretell(k: u16) -> Result<(u64, u64), u16> {
+    let (bytes, weighings) = unsafe { (declared::ffi_foretell_bytes(k), declared::ffi_foretell_weighings(k)) };
+    Ok((answer(bytes)?, answer(weighings)?))
 }
 
 /// `path_plan::plan_path`: version, k and the total.

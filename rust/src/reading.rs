@@ -13,6 +13,7 @@ mod records;
 mod refusals;
 mod stops;
 mod tree;
+mod weighings;
 
 pub use cell::{cell_check, cell_plan, cell_rewrite};
 pub use draws::draw_number;
@@ -24,3 +25,4 @@ pub use plans::{plan, plan_path};
 pub use refusals::*;
 pub use stops::{make_table, travel_time, Stop};
 pub use tree::{allowed, by_enumeration, by_whole_tables, every_set, fork_above, may_follow, order_of, preferred, refusal, total};
+pub use weighings::{foretell, of_pass, plan_weighings};

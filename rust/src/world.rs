@@ -122,7 +122,7 @@ impl World {
     }
 
     /// Each call once, with numbers that suit this world.
-    pub fn calls(&self, random: &mut Random) -> [Call; 17] {
+    pub fn calls(&self, random: &mut Random) -> [Call; 19] {
         let k = self.k;
         let highest = self.version + random.below(u64::from(7 - self.version)) as u16;
         let version = 4 + random.below(3) as u16;
@@ -133,6 +133,8 @@ impl World {
             Call::MakeTable { k },
             Call::TableFrom { version: self.version, k },
             Call::Plan { k },
+            Call::PlanWeighings { k },
+            Call::Foretell { k },
             Call::PlanPath { highest },
             Call::PlanFilled { k },
             Call::ForkBits { k },
@@ -179,7 +181,7 @@ impl World {
             lent.blends[..n].copy_from_slice(&self.blends);
             lent.dwells[..n].copy_from_slice(&self.dwells);
         }
-        if matches!(call, Call::Plan { .. } | Call::PlanFilled { .. } | Call::OrderTotal { .. } | Call::WriteOrderFile { .. } | Call::ReadOrderFile { .. }) {
+        if matches!(call, Call::Plan { .. } | Call::PlanWeighings { .. } | Call::PlanFilled { .. } | Call::OrderTotal { .. } | Call::WriteOrderFile { .. } | Call::ReadOrderFile { .. }) {
             lent.table.copy_from_slice(&self.table);
         }
         if matches!(call, Call::ForkBits { .. } | Call::Exchange { .. } | Call::OrderTotal { .. } | Call::WriteOrderFile { .. }) {

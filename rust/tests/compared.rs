@@ -52,6 +52,8 @@ fn every_call_with_faults() {
     assert_eq!(seen.numbers("MakeTable"), [0, 5, 6, 8]);
     assert_eq!(seen.numbers("TableFrom"), path);
     assert_eq!(seen.numbers("Plan"), [0, 5, 8]);
+    assert_eq!(seen.numbers("PlanWeighings"), [0, 5, 8]);
+    assert_eq!(seen.numbers("Foretell"), [0, 5]);
     for call in ["ForkBits", "OrderTotal", "WriteOrderFile"] {
         assert_eq!(seen.numbers(call), [0, 5, 8, 9, 10]);
     }
@@ -185,6 +187,8 @@ fn with_number(call: Call, number: u16) -> Vec<Call> {
         Call::MakeTable { .. } => vec![Call::MakeTable { k: number }],
         Call::TableFrom { version, k } => vec![Call::TableFrom { version: number, k }, Call::TableFrom { version, k: number }],
         Call::Plan { .. } => vec![Call::Plan { k: number }],
+        Call::PlanWeighings { .. } => vec![Call::PlanWeighings { k: number }],
+        Call::Foretell { .. } => vec![Call::Foretell { k: number }],
         Call::PlanPath { .. } => vec![Call::PlanPath { highest: number }],
         Call::PlanFilled { .. } => vec![Call::PlanFilled { k: number }],
         Call::ForkBits { .. } => vec![Call::ForkBits { k: number }],

@@ -8,6 +8,8 @@ use Rattle.stop.specs.declared.Stop.{Stop}
 use Rattle.stop.specs.Stop.{coordinate}
 use Rattle.path.specs.Reading.{Heading}
 use Rattle.path.specs.Draw.{Draw, drawn, ended, drawRefused}
+use Rattle.planner.specs.Weighings.{Needed}
+use Rattle.planner.specs.Plan.{Reported}
 use Rattle.path_plan.specs.PathPlan.{Planned}
 use Rattle.reader.specs.Draws.{aStop, theEnd}
 use Rattle.signed.specs.Result.{atMost}
@@ -19,6 +21,20 @@ nothing u = 0
 -- a count of bytes, or a total
 abbrev pub itself : ℕ → ℕ
 itself n = n
+
+-- of a plan by a table: its total, and its weighings
+abbrev pub totalOf : Reported → ℕ
+totalOf r = r .total
+
+abbrev pub weighingsOf : Reported → ℕ
+weighingsOf r = r .weighings
+
+-- of what k foretells: the bytes, and the weighings
+abbrev pub bytesNeeded : Needed → ℕ
+bytesNeeded f = f .bytes
+
+abbrev pub weighingsNeeded : Needed → ℕ
+weighingsNeeded f = f .weighings
 
 -- ---- a version and k in one number, and a total above them
 

@@ -16,6 +16,7 @@ use packed::stop_field;
 use path::PathRead;
 use path::PathWritten;
 use path_plan::PathPlanned;
+use planner::Foretold;
 use planner::Planned;
 use signed::refusal;
 use signed::value;
@@ -26,6 +27,7 @@ ghost use Rattle.path.specs.Draw.{drawAt};
 ghost use Rattle.path.specs.Reading.{ReadsPath, said as pathRead};
 ghost use Rattle.path.specs.Written.{WritesPath, said as pathWritten};
 ghost use Rattle.times.specs.Table.{MakesTable, FillsTable, said as tableMade};
+ghost use Rattle.planner.specs.Weighings.{foretold};
 ghost use Rattle.planner.specs.Plan.{PlansOrder, said as orderPlanned};
 ghost use Rattle.path_plan.specs.PathPlan.{PlansPath, said as pathPlanned};
 ghost use Rattle.filled.specs.Filled.{PlansList, said as listPlanned};
@@ -38,7 +40,7 @@ ghost use Rattle.order_file.specs.Read.{ReadsFile, said as fileRead};
 ghost use Rattle.reader.specs.Draws.{drawAnswer};
 ghost use Rattle.signed.specs.Result.{signed};
 ghost use Rattle.exports.specs.Exported.{Exported};
-ghost use Rattle.exports.specs.Values.{nothing, itself, heading, planned, listValue, verdict, fieldOf};
+ghost use Rattle.exports.specs.Values.{nothing, itself, totalOf, weighingsOf, bytesNeeded, weighingsNeeded, heading, planned, listValue, verdict, fieldOf};
 
 // `path::read_path`: version and k in one number.
 #[no_mangle]
@@ -119,12 +121,66 @@ pub extern "C" fn ffi_plan(
     totals: &mut [u64],
     pivots: &mut [u16],
 ) -> i64
-    ensures { λ r. ⌜ Exported (PlansOrder k table order totals pivots) (λ a. signed itself (orderPlanned a)) r ⌝ }
+    ensures { λ r. ⌜ Exported (PlansOrder k table order totals pivots) (λ a. signed totalOf (orderPlanned a)) r ⌝ }
 {
     let answer = planner::plan(k, table, order, totals, pivots);
     match answer {
-        Planned::Done(total) => value(total),
+        Planned::Done {
+            total,
+            weighings: _,
+        } => value(total),
         Planned::Refused(number) => refusal(number),
+    }
+}
+
+// `planner::plan`: the number of weighings.
+#[no_mangle]
+pub extern "C" fn ffi_plan_weighings(
+    k: u16,
+    table: &[u32],
+    order: &mut [u16],
+    totals: &mut [u64],
+    pivots: &mut [u16],
+) -> i64
+    ensures { λ r. ⌜ Exported (PlansOrder k table order totals pivots) (λ a. signed weighingsOf (orderPlanned a)) r ⌝ }
+{
+    let answer = planner::plan(k, table, order, totals, pivots);
+    match answer {
+        Planned::Done {
+            total: _,
+            weighings,
+        } => value(weighings),
+        Planned::Refused(number) => refusal(number),
+    }
+}
+
+// `planner::foretell`: the bytes of lent work space.
+#[no_mangle]
+pub extern "C" fn ffi_foretell_bytes(k: u16) -> i64
+    ensures { λ r. ⌜ r ≡ signed bytesNeeded (foretold k) ⌝ }
+{
+    let answer = planner::foretell(k);
+    match answer {
+        Foretold::Takes {
+            bytes,
+            weighings: _,
+        } => value(bytes),
+        Foretold::Refused(number) => refusal(number),
+    }
+}
+
+// `planner::foretell`: the number of weighings.
+#[no_mangle]
+pub extern "C" fn ffi_foretell_weighings(k: u16) -> i64
+    ensures { λ r. ⌜ r ≡ signed weighingsNeeded (foretold k) ⌝ }
+{
+    let answer = planner::foretell(k);
+    match answer {
+        Foretold::Takes {
+            bytes: _,
+            weighings,
+        } => value(weighings),
+        Foretold::Refused(number) => refusal(number),
     }
 }
 

@@ -20,8 +20,7 @@ use Rattle.tree.proofs.Diagonal.{shortest-same, wanted-same}
 use Rattle.tree.proofs.Open.{wanted-shortest, length-wanted}
 use Rattle.planner.specs.declared.Planned.the-variants.{Done}
 use Rattle.planner.specs.Plan.{planOrder, OrderIsPlanned}
-use Rattle.planner.specs.Plan as plan
-use Rattle.planner.proofs.Judged.{when-planned}
+use Rattle.planner.proofs.Judged.{when-planned, total-said}
 use Rattle.path_plan.specs.Claim.{ShortestFor}
 use Rattle.path_plan.specs.Calls.{AcceptedRun}
 use Rattle.path_plan.proofs.Meaning.{GoodPath, path-good, read-same}
@@ -64,15 +63,14 @@ table-total k ss e =
     ∙ ap (total (entryOf ss)) (table-wanted k ss e)
 
 -- an accepting planner leaves the wanted order by its table first, and answers its total
-plans-shortest : (k : ℕ) (table order totals pivots order′ totals′ pivots′ : List ℕ) (c : ℕ) → OrderIsPlanned k (planOrder k table (length order) (length totals) (length pivots)) order totals pivots order′ totals′ pivots′ (Done c)
+plans-shortest : (k : ℕ) (table order totals pivots order′ totals′ pivots′ : List ℕ) (c d : ℕ) → OrderIsPlanned k (planOrder k table (length order) (length totals) (length pivots)) order totals pivots order′ totals′ pivots′ (Done c d)
     → Shortest k (entry (2 ^ k) table) (take (2 ^ k) order′) c
-unfolding plan.said
-plans-shortest k table order totals pivots order′ totals′ pivots′ c p =
+plans-shortest k table order totals pivots order′ totals′ pivots′ c d p =
     let t : ℕ → ℕ → ℕ = entry (2 ^ k) table in
-    let o = when-planned k table order totals pivots order′ totals′ pivots′ c p in
+    let o = when-planned k table order totals pivots order′ totals′ pivots′ c d p in
     let wrote : order′ ≡ over (wanted k t) order = rw o at (p .wrote) in
     let w : take (2 ^ k) order′ ≡ wanted k t = rw wrote (take-at (wanted k t) _ (2 ^ k) (length-wanted k t)) in
-    let answer : gives c ≡ gives (total t (wanted k t)) = rw o at (p .said) in
+    let answer : gives c ≡ gives (total t (wanted k t)) = rw o at (total-said k c d (planOrder k table (length order) (length totals) (length pivots)) (p .said)) in
     let s : c ≡ total t (wanted k t) = cc in
     rw (w, s) (wanted-shortest k t)
 
@@ -93,5 +91,5 @@ run-shortest bytes highest version k order c r =
       means = read-same bytes highest (stopRoom (r .lent)) anySize version k ss (l .means) refl;
       shortest = table-shortest k ss (take (2 ^ k) order) c (g .count)
           (subst (λ x. Shortest k (entry (2 ^ k) x) (take (2 ^ k) order) c) made
-          (plans-shortest k (r .table′) (r .order) (r .totals) (r .pivots) order (r .totals′) (r .pivots′) c (r .planning)));
+          (plans-shortest k (r .table′) (r .order) (r .totals) (r .pivots) order (r .totals′) (r .pivots′) c (r .weighings) (r .planning)));
     }

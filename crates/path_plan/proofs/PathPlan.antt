@@ -62,11 +62,11 @@ module _ (bytes : List ℕ) (highest : ℕ) (table order totals pivots : List �
     pub path-planned : (order′ totals′ pivots′ : List ℕ) (r : Planned) → planRoom k (length (tableOf ss)) (length order) (length totals) (length pivots) ≡ gives tt → length (tableOf ss) ≡ length table → OrderIsPlanned k (planOrder k (tableOf ss) (length order) (length totals) (length pivots)) order totals pivots order′ totals′ pivots′ r → PathIsPlanned bytes highest (planPath bytes highest (length table) (length order) (length totals) (length pivots)) table order totals pivots (tableOf ss) order′ totals′ pivots′ (withHeading version k r)
     unfolding said plan.said withHeading
     path-planned order′ totals′ pivots′ (planned.Refused n) room long p =
-        let answer : refuses n ≡ gives (total (entry (2 ^ k) (tableOf ss)) (wanted k (entry (2 ^ k) (tableOf ss)))) = rw room at (p .said) in
+        let answer : refuses n ≡ gives (plan.reported k (wantedPlan k (tableOf ss))) = rw room at (p .said) in
         let z : _≡_ {A = ℕ} 0 1 = cc in
         absurd (omega arith)
-    path-planned order′ totals′ pivots′ (planned.Done t) room long p =
-        let answer : gives t ≡ gives (total (entry (2 ^ k) (tableOf ss)) (wanted k (entry (2 ^ k) (tableOf ss)))) = rw room at (p .said) in
+    path-planned order′ totals′ pivots′ (planned.Done t w) room long p =
+        let answer : gives t ≡ gives (total (entry (2 ^ k) (tableOf ss)) (wanted k (entry (2 ^ k) (tableOf ss)))) = rw room at (lengths.total-said k t w (planOrder k (tableOf ss) (length order) (length totals) (length pivots)) (p .said)) in
         let given : t ≡ total (entry (2 ^ k) (tableOf ss)) (wanted k (entry (2 ^ k) (tableOf ss))) = cc in
         let sum : t ≡ total (entryOf ss) (wanted k (entryOf ss)) = given ∙ table-total k ss (good .count) in
         let first : order′ ≡ over (wanted k (entry (2 ^ k) (tableOf ss))) order = rw room at (p .wrote) in

@@ -27,4 +27,5 @@ pub record AcceptedRun (bytes : List ℕ) (highest version k : ℕ) (order′ : 
   pub pivots : List ℕ
   pub totals′ : List ℕ
   pub pivots′ : List ℕ
-  pub planning : OrderIsPlanned k (planOrder k table′ (length order) (length totals) (length pivots)) order totals pivots order′ totals′ pivots′ (planned.Done total)
+  pub weighings : ℕ
+  pub planning : OrderIsPlanned k (planOrder k table′ (length order) (length totals) (length pivots)) order totals pivots order′ totals′ pivots′ (planned.Done total weighings)

@@ -5,7 +5,7 @@ use Rattle.planner.specs.declared.Planned.the-variants as planned
 use Rattle.path_plan.specs.declared.PathPlanned.{PathPlanned}
 use Rattle.path_plan.specs.declared.PathPlanned.the-variants.{Done, Refused}
 
--- the planner's answer, with the path's version and k
+-- the planner's answer, with the path's version and k; its count of weighings is left out
 unfoldable pub withHeading : (version k : ℕ) → Planned → PathPlanned
-withHeading version k (planned.Done t) = Done version k t
+withHeading version k (planned.Done t w) = Done version k t
 withHeading version k (planned.Refused n) = Refused n

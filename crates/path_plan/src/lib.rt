@@ -20,7 +20,10 @@ fn with_heading(version: u16, k: u16, planned: Planned) -> PathPlanned
     ensures { λ r. ⌜ r ≡ withHeading version k planned ⌝ }
 {
     match planned {
-        Planned::Done(total) => PathPlanned::Done { version, k, total },
+        Planned::Done {
+            total,
+            weighings: _,
+        } => PathPlanned::Done { version, k, total },
         Planned::Refused(number) => PathPlanned::Refused(number),
     }
 }

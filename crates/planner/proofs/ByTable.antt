@@ -18,6 +18,7 @@ use Rattle.rows.specs.Costing.{Costing, allowed, blockGraph}
 use Rattle.rows.specs.Source.{Sources, costsOf}
 use Rattle.planner.specs.declared.halve.Solved.{Solved}
 use Rattle.planner.specs.Method.{allWalks, HasPlan, LeftByMethod}
+use Rattle.planner.proofs.Weighings.{plan-makes}
 use Rattle.planner.proofs.Judged.{LeftByTable}
 
 -- the walks through all places of 2^k stops are those of the tree's test, with the same stops kept out and the same costs
@@ -42,7 +43,7 @@ table-plan c s k e = record { cost = _; walk = _; found = wanted-plan c s k e }
 
 -- and the method leaves it
 pub table-left : (c : Costs) (s : Sources) {k : ℕ} {order totals pivots : List ℕ} (r : Solved) → c .n ≡ 2 ^ k → LeftByMethod (costsOf c s) (c .n) k order totals pivots r
-    → LeftByTable k (s .table) order totals pivots (r .total)
+    → LeftByTable k (s .table) order totals pivots (r .total) (r .weighings)
 table-left c s {k} {order} r e m =
     let t : ℕ → ℕ → ℕ = entry (2 ^ k) (s .table) in
     let same : at (r .total) (backward order) ≡ at (total t (wanted k t)) (backward (wanted k t)) = sym (m .best .planned) ∙ wanted-plan c s k e in
@@ -51,6 +52,7 @@ table-left c s {k} {order} r e m =
     record {
       wrote = backward-same order (wanted k t) (m .best .long ∙ e ∙ sym (length-wanted k t)) back;
       summed = sum;
+      weighed = m .counted ∙ plan-makes k;
       totalsCleared = m .cleared ∙ ap (λ n. replicate (n + n) 0) e;
       pivotsCleared = m .unmarked ∙ ap (λ n. replicate (n + n) 0) e;
     }

@@ -22,3 +22,5 @@ pub mod Ends
 -- The call, by a table.
 pub mod Judged
 pub mod ByTable
+-- What k alone foretells.
+pub mod Sums

@@ -1,3 +1,4 @@
--- The planner: halving the places, and what planning answers.
+-- The planner: halving the places, how many candidates are weighed, and what planning answers.
 pub mod Method
+pub mod Weighings
 pub mod Plan

@@ -7,12 +7,20 @@ mod halve;
 mod lent;
 
 ghost use mathlib.Core.Path.{_≡_};
+ghost use Prim.Native.Nat.{_≤_};
 ghost use Rattle.base.specs.Outcome.{number};
+ghost use Rattle.planner.specs.Weighings.{foretoldWeighings, foretold, foresaid};
 ghost use Rattle.planner.specs.Plan.{planRoom, PlansOrder};
 
-// What planning answers: the total of the order that was written, or the refusal's number.
+// What planning answers: the total of the order that was written and the number of weighings, or the refusal's number.
 pub enum Planned {
-    Done(u64),
+    Done { total: u64, weighings: u64 },
+    Refused(u16),
+}
+
+// What a plan takes: bytes of lent work space and weighings, or the refusal's number.
+pub enum Foretold {
+    Takes { bytes: u64, weighings: u64 },
     Refused(u16),
 }
 
@@ -39,7 +47,7 @@ pub fn judge_lengths(k: u16, table: usize, order: usize, totals: usize, pivots: 
     0
 }
 
-// Writes the wanted order of n = 2^k stops into the first n places of `order` and answers its total. The table has row 'from' and column
+// Writes the wanted order of n = 2^k stops into the first n places of `order` and answers its total and how many candidates were weighed. The table has row 'from' and column
 // 'to' and is exactly n² long. `totals` and `pivots` are work space of 2n numbers each, which are 0 afterwards. A refusal writes nothing.
 pub fn plan(
     k: u16,
@@ -66,5 +74,36 @@ pub fn plan(
         &mut pivots[..n + n],
         k as u32,
     );
-    Planned::Done(solved.total)
+    Planned::Done {
+        total: solved.total,
+        weighings: solved.weighings,
+    }
+}
+
+// How many candidates a plan of 2^k stops weighs.
+fn weighings_for(k: u16) -> u64
+    requires { ⌜ k ≤ 10 ⌝ }
+    ensures { λ r. ⌜ r ≡ foretoldWeighings k ⌝ }
+{
+    if k == 0 {
+        return 0;
+    }
+    if k == 1 {
+        return 2;
+    }
+    (k as u64 - 1) << (2 * k)
+}
+
+// What a plan of 2^k stops takes, from k alone: 20n bytes of lent work space, and the weighings.
+pub fn foretell(k: u16) -> Foretold
+    ensures { λ r. ⌜ foresaid r ≡ foretold k ⌝ }
+{
+    if base::MAX_K < k {
+        return Foretold::Refused(base::WRONG_K);
+    }
+    let n = base::stop_count(k);
+    Foretold::Takes {
+        bytes: 20 * n as u64,
+        weighings: weighings_for(k),
+    }
 }

@@ -1,5 +1,6 @@
 // One call of the planner, and its line.
 
+use planner::Foretold;
 use planner::Planned;
 use test_support::count;
 use test_support::write;
@@ -18,12 +19,34 @@ fn lengths(table: &[u32], order: &[u16], totals: &[u64], pivots: &[u16]) {
     write::number(pivots.len() as u64);
 }
 
-// The number of a refusal, or 0 and the total.
+// A total, and the weighings that found it.
+fn found(total: u64, weighings: u64) {
+    write::value(b": 0, total ", total);
+    write::value(b" by ", weighings);
+}
+
+// The number of a refusal, or 0, the total and the weighings.
 pub fn planned_answer(planned: Planned) {
     match planned {
-        Planned::Done(total) => write::value(b": 0, total ", total),
+        Planned::Done { total, weighings } => found(total, weighings),
         Planned::Refused(refusal) => write::value(b": ", test_support::wide(refusal)),
     }
+}
+
+// Bytes of work space, and weighings.
+fn needed(bytes: u64, weighings: u64) {
+    write::value(b": bytes ", bytes);
+    write::value(b", weighings ", weighings);
+}
+
+// What k foretells, and its line.
+pub fn foretold(k: u16) {
+    write::value(b"k ", test_support::wide(k));
+    match planner::foretell(k) {
+        Foretold::Takes { bytes, weighings } => needed(bytes, weighings),
+        Foretold::Refused(refusal) => write::value(b": ", test_support::wide(refusal)),
+    }
+    io::write_all(1, b"\n");
 }
 
 // The 0s and 77s of the work space.

@@ -1,5 +1,5 @@
-// Runs the planner on known tables and writes a line for each call: k, the table's rule, the lent lengths, the refusal's number or 0, the total,
-// the whole lent order, and of `totals` and `pivots` how many numbers are 0 and how many are as they were lent. Every lent number is 77.
+// Runs the planner on known tables and writes a line for each call: k, the table's rule, the lent lengths, the refusal's number or 0, the total and by
+// how many weighings it was found, the whole lent order, and of `totals` and `pivots` how many numbers are 0 and how many are as they were lent. Every lent number is 77.
 
 mod call;
 mod large;
@@ -71,8 +71,26 @@ fn refused() {
     lent(65535, 0, 4, 16, 4, 8, 8);
 }
 
+// What each k foretells, and above 10 the refusal.
+fn foretold() {
+    call::foretold(0);
+    call::foretold(1);
+    call::foretold(2);
+    call::foretold(3);
+    call::foretold(4);
+    call::foretold(5);
+    call::foretold(6);
+    call::foretold(7);
+    call::foretold(8);
+    call::foretold(9);
+    call::foretold(10);
+    call::foretold(11);
+    call::foretold(65535);
+}
+
 // All calls.
 fn main() {
+    foretold();
     starred();
     ruled();
     refused();

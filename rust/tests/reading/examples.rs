@@ -27,6 +27,22 @@ fn known_examples() {
     assert_eq!(order_total(1, &[0, 0], &[0; 4]), Err(NOT_ALLOWED));
 }
 
+/// M-113: 'A halving pass over 2^m places makes m × 2^(2m−1) of them'; 'so 16 for k = 2 and 9,437,184 for k = 10'; the count is what is foretold.
+#[test]
+fn weighings() {
+    for m in 1..=10 {
+        assert_eq!(of_pass(m), u64::from(m) << (2 * m - 1));
+    }
+    assert_eq!([0, 1, 2, 10].map(foretell), [Ok((20, 0)), Ok((40, 2)), Ok((80, 16)), Ok((20_480, 9_437_184))]);
+    assert_eq!([11, 65_535].map(foretell), [Err(WRONG_K); 2]);
+    for k in 0..=6 {
+        let mut run = Run::new(k);
+        run.table = vec![7; 1 << (2 * k)];
+        let count = plan_weighings(k, &run.table, &mut run.order, &mut run.totals, &mut run.pivots);
+        assert_eq!(count, foretell(k).map(|(_, weighings)| weighings));
+    }
+}
+
 #[test]
 fn travel_times() {
     let stop = |x: i32, y: i32, z: i32, speed: u16| Stop { at: [x, y, z], speed, blend: 0, dwell: 0 };
