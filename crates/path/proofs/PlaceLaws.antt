@@ -60,6 +60,12 @@ place-range version i =
 pub next-place : (i n size : ℕ) → i < n → i * size + size ≤ n * size
 next-place i n size h = rw suc-mul at (mul-le-mul-right size h)
 
+-- so the record of stop i lies within bytes that the places of n stops lie within
+pub place-within : (version i n room : ℕ) → i < n → stopPlace version n ≤ room → stopPlace version i + stopSize version ≤ room
+place-within version i n room h r =
+    let next : i * stopSize version + stopSize version ≤ n * stopSize version = next-place i n (stopSize version) h in
+    omega (arith, place-is version i, place-is version n)
+
 -- past the end every place leaves nothing
 pub drop-min-add : (d a b : ℕ) (s : List ℕ) → length s ≤ b → drop (d + min a b) s ≡ drop (d + a) s
 drop-min-add d a b s h = pick (leb a b) refl

@@ -1,7 +1,7 @@
 -- The round trips: what was written reads as the same path; what was read is written as the same bytes; and the same stops written in another
 -- version that holds them mean the same.
 use mathlib.Core.Path.{_≡_, refl, sym, ap, _∙_}
-use mathlib.Core.Bool.{true, false, _||_}
+use mathlib.Core.Bool.{true, false}
 use mathlib.Core.List.{List, [], _∷_, _++_, append-assoc, append-nil}
 use Prim.Native.Nat.{ℕ, zero, suc, _+_, _-_, _*_, _^_, _≤_}
 use native.Mathlib.Nat.{zero-mul, suc-mul}
@@ -12,7 +12,7 @@ use lib.Seq.{take-at, drop-at, take-all}
 use borrow.Author.Tests.{leb-true}
 use Rattle.base.specs.Outcome.{Outcome, gives, andThen, giving}
 use Rattle.records.specs.Field.{numberOf, bytesOf, areBytes}
-use Rattle.records.specs.Record.{recordLength, recordBytes, isKind, takeRecord, Taken, taken, oldestVersion, blendSince, dwellSince}
+use Rattle.records.specs.Record.{recordLength, recordBytes, isKind, takeRecord, Taken, taken, oldestVersion}
 use Rattle.records.proofs.FieldLaws.{length-bytesOf, number-bytesOf, areBytes-take, areBytes-drop}
 use Rattle.records.proofs.LengthLaws.{path-length, end-length, length-small}
 use Rattle.records.proofs.RecordLaws.{take-written, taken-written, taken-whole}
@@ -27,8 +27,7 @@ use Rattle.path.proofs.HeadLaws.{fields-good}
 use Rattle.path.proofs.Inverse.{next-of, ended-of, accepted-of, opened-of}
 use Rattle.path.proofs.PlaceLaws.{size-length, size-range}
 use Rattle.path.proofs.JudgeLaws.{path-body}
-use Rattle.path.specs.Local.{isLost}
-use Rattle.path.proofs.StopFields.{explicit-stop, explicit-loss, own-kept, newer-keeps}
+use Rattle.path.proofs.StopFields.{field-kept, newer-field}
 use Rattle.path.proofs.StopRound.{stop-back, content-back, plain-back}
 use Rattle.path.proofs.WrittenLaws.{length-content, size-is}
 
@@ -152,11 +151,6 @@ write-read bytes highest test version k ss b e =
 
 -- ---- what is known of stops that were read
 
-field-kept : (version : ℕ) (content : List ℕ) → losesField version (stopOf version content) ≡ false
-field-kept version content =
-    explicit-loss version (stopOf version content)
-    ∙ rw (explicit-stop version content, own-kept blendSince version (drop 14 content), own-kept dwellSince version (drop 16 content))
-
 -- so many stops, each in range, none with a field that the version lacks, in just these bytes
 pub record Facts (version n : ℕ) (s : List ℕ) (ss : List Stop) : Type 0 where
   pub count : length ss ≡ n
@@ -202,14 +196,6 @@ accepted-size bytes highest test version k ss e =
     rw size-is (omega arith)
 
 -- ---- another version
-
--- a version that keeps every field of a stop is followed by versions that do
-newer-field : (version to : ℕ) (s : Stop) → version ≤ to → losesField version s ≡ false → losesField to s ≡ false
-newer-field version to s h e =
-    let both : (isLost blendSince version (s .blend) || isLost dwellSince version (s .dwell)) ≡ false = sym (explicit-loss version s) ∙ e in
-    let blend = or-left (isLost blendSince version (s .blend)) (isLost dwellSince version (s .dwell)) both in
-    let dwell = or-right (isLost blendSince version (s .blend)) (isLost dwellSince version (s .dwell)) both in
-    explicit-loss to s ∙ rw (newer-keeps blendSince version to (s .blend) h blend, newer-keeps dwellSince version to (s .dwell) h dwell)
 
 pub newer-any : (version to : ℕ) (ss : List Stop) → version ≤ to → losesAny version ss ≡ false → losesAny to ss ≡ false
 unfolding losesAny

@@ -1,5 +1,5 @@
 -- The fields of a stop's record written out: where each stands in the content, what a version leaves out, and the parts that are written.
-use mathlib.Core.Path.{_≡_, refl, _∙_}
+use mathlib.Core.Path.{_≡_, refl, sym, _∙_}
 use mathlib.Core.Bool.{Bool, true, false, cond, _&&_, _||_, not, and-true}
 use mathlib.Core.List.{List, [], _∷_, _++_, append-assoc, append-nil}
 use Prim.Native.Nat.{ℕ, _+_, _≤_, _<_}
@@ -8,6 +8,7 @@ use lib.ListN.{take, drop}
 use lib.Seq.{drop-drop}
 use borrow.Author.Tests.{le-leb, lt-leb, leb-true, not-false}
 use native.Mathlib.Omega.{arith}
+use Rattle.base.proofs.Bools.{or-left, or-right}
 use Rattle.records.specs.Field.{numberOf, bytesOf, signed, readFields, writeFields}
 use Rattle.records.specs.Record.{stopFields, laterFields, blendSince, dwellSince}
 use Rattle.records.proofs.Versions.{Layout, plain, blended, dwelling, layout}
@@ -110,3 +111,17 @@ newer-keeps since version to value h = by (leb since version) refl
     by : (b : Bool) → leb since version ≡ b → not (b || eqb value 0) ≡ false → isLost since to value ≡ false
     by true e k = rw (le-leb since to (omega (arith, leb-true since version e)))
     by false e k = rw (not-false (eqb value 0) k) (or-true (leb since to))
+
+-- so a stop that was read loses nothing in its own version
+pub field-kept : (version : ℕ) (content : List ℕ) → losesField version (stopOf version content) ≡ false
+field-kept version content =
+    explicit-loss version (stopOf version content)
+    ∙ rw (explicit-stop version content, own-kept blendSince version (drop 14 content), own-kept dwellSince version (drop 16 content))
+
+-- a version that keeps every field of a stop is followed by versions that do
+pub newer-field : (version to : ℕ) (s : Stop) → version ≤ to → losesField version s ≡ false → losesField to s ≡ false
+newer-field version to s h e =
+    let both : (isLost blendSince version (s .blend) || isLost dwellSince version (s .dwell)) ≡ false = sym (explicit-loss version s) ∙ e in
+    let blend = or-left (isLost blendSince version (s .blend)) (isLost dwellSince version (s .dwell)) both in
+    let dwell = or-right (isLost blendSince version (s .blend)) (isLost dwellSince version (s .dwell)) both in
+    explicit-loss to s ∙ rw (newer-keeps blendSince version to (s .blend) h blend, newer-keeps dwellSince version to (s .dwell) h dwell)

@@ -1,20 +1,22 @@
 -- Laws of one stop's record: what its content means does not depend on what follows it.
-use mathlib.Core.Path.{_≡_, sym, ap, _∙_}
-use mathlib.Core.Bool.{true}
+use mathlib.Core.Path.{_≡_, refl, sym, ap, _∙_}
+use mathlib.Core.Bool.{Bool, true, false}
 use mathlib.Core.List.{List, [], _∷_}
-use Prim.Native.Nat.{ℕ, _+_, _-_, _*_, _≤_}
+use Prim.Native.Nat.{ℕ, _+_, _-_, _*_, _≤_, _<_}
 use native.Mathlib.Omega.{arith}
 use lib.IntN.{ℤ}
 use lib.ListN.{length, take, drop, length-drop}
 use lib.Seq.{take-take, drop-drop}
-use borrow.Author.Tests.{le-leb}
+use lib.Dec.{eqb}
+use borrow.Author.Tests.{le-leb, ne-eqb, eqb-true, eqb-false}
 use Rattle.base.specs.Outcome.{Outcome, gives, refuses, andThen, giving, number}
 use Rattle.base.proofs.Outcome.{refused, number-first}
 use Rattle.records.specs.Field.{numberOf, signed}
-use Rattle.records.specs.Record.{Taken, recordLength, takeRecord, laterFields, blendSince, dwellSince}
+use Rattle.base.proofs.Bools.{and-right}
+use Rattle.records.specs.Record.{Taken, recordLength, takeRecord, isKind, isDue, kindSaid, lengthSaid, laterFields, blendSince, dwellSince}
 use Rattle.records.proofs.LengthLaws.{stop-length}
 use Rattle.records.proofs.Versions.{later-blend, later-dwell}
-use Rattle.records.proofs.RecordLaws.{by-taken, number-good}
+use Rattle.records.proofs.RecordLaws.{Whole, by-taken, whole, number-good}
 use Rattle.stop.specs.declared.Stop.{Stop}
 use Rattle.stop.specs.Stop.{inRange, judgeStop}
 use Rattle.stop.proofs.Limits.{judged-good}
@@ -73,6 +75,11 @@ in-place version i bytes enough =
     rw (le-leb (stopPlace version i + stopSize version) (length bytes) (omega (arith, size-range version .0)))
     (ap (stopOf version) (sym (drop-drop 4 (stopPlace version i) bytes ∙ rw next)))
 
+-- and of the bytes from there on, where its record lies within them
+pub within-stop : (version i : ℕ) (bytes : List ℕ) → stopPlace version i + stopSize version ≤ length bytes → stopIn version i bytes ≡ stopOf version (drop (4 + stopPlace version i) bytes)
+unfolding stopIn
+within-stop version i bytes h = rw (le-leb (stopPlace version i + stopSize version) (length bytes) h)
+
 -- a good stop's record lies within the bytes
 pub stop-present : (version : ℕ) (s : List ℕ) → number (readStop version s) ≡ 0 → stopSize version ≤ length s
 unfolding readStop
@@ -108,3 +115,47 @@ stop-bad version next s n =
   where
     bad-one : (st : Stop) (rest : Stop → Outcome (List Stop)) → n ≡ number (judgeStop st) → (n ≡ 0 → ⊥) → andThen (judgeStop st) rest ≡ refuses n
     bad-one st rest e f = rw (refused (judgeStop st) n e f)
+
+-- ---- a stop's record told from everything else at once
+
+-- a record that is not whole has a number that is not 0
+not-whole : (long : ℕ) (s : List ℕ) → (Whole 2 long s (take (long - 2) (drop 4 s)) (drop (2 + long) s) → ⊥) → false ≡ eqb (number (takeRecord 2 long s)) 0
+not-whole long s f =
+    by-taken 2 long s (λ t. false ≡ eqb (number t) 0)
+    (λ w. absurd (f w))
+    (λ n g. sym (ne-eqb n 0 g))
+
+-- by the kind that it says, where it is long enough and says its length
+by-kind : (long : ℕ) (s : List ℕ) → 4 ≤ length s → 2 + long ≤ length s → lengthSaid s ≡ long → eqb (kindSaid s) 2 ≡ eqb (number (takeRecord 2 long s)) 0
+unfolding isDue isKind
+by-kind long s present enough says = pick (eqb (kindSaid s) 2) refl
+  where
+    pick : (b : Bool) → eqb (kindSaid s) 2 ≡ b → eqb (kindSaid s) 2 ≡ eqb (number (takeRecord 2 long s)) 0
+    pick true e =
+        let due : isDue 2 (kindSaid s) ≡ true = rw (eqb-true (kindSaid s) 2 e) in
+        rw (e, whole 2 long s present due says enough)
+    pick false e =
+        rw e
+        (not-whole long s (λ w. eqb-false (kindSaid s) 2 e (sym (eqb-true 2 (kindSaid s) (and-right (isKind (kindSaid s)) (eqb 2 (kindSaid s)) (w .due))))))
+
+module _ (version at : ℕ) (bytes : List ℕ) (long : ℕ) (e : long ≡ recordLength 2 version 0) where
+  -- fewer bytes than the record takes
+  pub told-short : length bytes < at + 2 + long → false ≡ eqb (number (takeRecord 2 (recordLength 2 version 0) (drop at bytes))) 0
+  told-short h =
+      let left : length (drop at bytes) ≡ length bytes - at = length-drop at bytes in
+      rw (← e) (not-whole long (drop at bytes) (λ w. omega arith))
+
+  module _ (said : ℕ) (f : said ≡ numberOf (take 2 (drop at bytes))) where
+    -- another length
+    pub told-length : (said ≡ long → ⊥) → false ≡ eqb (number (takeRecord 2 (recordLength 2 version 0) (drop at bytes))) 0
+    unfolding lengthSaid
+    told-length h = rw (← e) (not-whole long (drop at bytes) (λ w. h (f ∙ w .says)))
+
+    -- and else by the kind
+    pub told-kind : (kind : ℕ) → at + 2 + long ≤ length bytes → said ≡ long → kind ≡ numberOf (take 2 (drop (at + 2) bytes)) → eqb kind 2 ≡ eqb (number (takeRecord 2 (recordLength 2 version 0) (drop at bytes))) 0
+    unfolding lengthSaid kindSaid
+    told-kind kind h g k =
+        let left : length (drop at bytes) ≡ length bytes - at = length-drop at bytes in
+        let many : 16 ≤ long = omega (arith, stop-length version) in
+        let next : kind ≡ kindSaid (drop at bytes) = k ∙ ap (λ (s : List ℕ). numberOf (take 2 s)) (sym (drop-drop 2 at bytes)) in
+        rw (next, ← e) (by-kind long (drop at bytes) (omega arith) (omega arith) (sym f ∙ g))

@@ -2,10 +2,10 @@
 use mathlib.Core.Path.{_≡_, refl, sym, ap, _∙_}
 use mathlib.Core.Bool.{Bool, true, false, _||_, not}
 use mathlib.Core.List.{List}
-use Prim.Native.Nat.{ℕ, zero, suc, _^_, _≤_, _<_}
+use Prim.Native.Nat.{ℕ, zero, suc, _+_, _^_, _≤_, _<_}
 use native.Mathlib.Omega.{arith}
 use lib.Dec.{leb}
-use lib.ListN.{length}
+use lib.ListN.{length, drop}
 use borrow.Author.Tests.{le-leb, lt-leb, leb-true, not-true}
 use Rattle.base.specs.Outcome.{Outcome, gives, refuses, need, andThen, number, over}
 use Rattle.base.proofs.Outcome.{passed, refused, number-first}
@@ -15,10 +15,13 @@ use Rattle.stop.specs.declared.Stop.{Stop}
 use Rattle.stop.specs.Lent.{LentStops, firstStops, judgeLent}
 use Rattle.stop.proofs.Lent.{judged-gives, length-first}
 use Rattle.path.specs.declared.PathWritten.the-variants.{Wrote, Refused}
-use Rattle.path.specs.Path.{knownVersion, pathSize, bodyAfterHead, stopIn, stopsIn}
+use Rattle.path.specs.Path.{knownVersion, pathSize, bodyAfterHead, stopPlace, stopIn, stopsIn}
 use Rattle.path.specs.Written.{losesField, losesAny, pathBytes, writeStops, writePath, rewriteAfterHead, said, BytesAreWritten}
 use Rattle.path.specs.Local.{judgeOutput}
 use Rattle.path.proofs.JudgeLaws.{JudgedBody, body-good}
+use Rattle.path.proofs.PlaceLaws.{place-within}
+use Rattle.path.proofs.StopFields.{field-kept, newer-field}
+use Rattle.path.proofs.StopLaws.{within-stop}
 use Rattle.path.proofs.WrittenLaws.{length-written}
 
 -- ---- fields that a version lacks
@@ -37,6 +40,12 @@ any-some version (suc n) f (suc i) l h = rw (any-some version n (λ j. f (suc j)
     or-true : (b : Bool) → (b || true) ≡ true
     or-true true = refl
     or-true false = refl
+
+-- stops that were read lose nothing in a version that is no older
+pub none-newer : (version to n : ℕ) (bytes : List ℕ) → version ≤ to → stopPlace version n ≤ length bytes → losesAny to (stopsIn version n bytes) ≡ false
+none-newer version to n bytes h room =
+    any-none to n (λ i. stopIn version i bytes)
+    (λ i l. newer-field version to (stopIn version i bytes) h (rw (within-stop version i bytes (place-within version i n (length bytes) l room)) (field-kept version (drop (4 + stopPlace version i) bytes))))
 
 -- ---- the last two tests, 13 and 8
 
@@ -117,12 +126,16 @@ module _ (bytes : List ℕ) (version k wanted room : ℕ) where
     unfolding rewriteAfterHead
     rewrite-output e = rw (body-good bytes version k z .stops, e)
 
+  -- a rewriting whose number is 0 found a good body
+  pub rewrite-judged : number (rewriteAfterHead bytes version k wanted room) ≡ 0 → JudgedBody bytes version k
+  unfolding rewriteAfterHead
+  rewrite-judged z = body-good bytes version k (number-first (bodyAfterHead bytes version k) (λ ss. need (knownVersion wanted) 4 (writeStops wanted k room ss)) z)
+
   pub rewritable : number (rewriteAfterHead bytes version k wanted room) ≡ 0 → Writable k (pathSize wanted k) room (rewriteAfterHead bytes version k wanted room) (pathBytes wanted k (stopsIn version (2 ^ k) bytes))
   unfolding rewriteAfterHead
   rewritable z =
       let ss = stopsIn version (2 ^ k) bytes in
-      let judged = number-first (bodyAfterHead bytes version k) (λ ss. need (knownVersion wanted) 4 (writeStops wanted k room ss)) z in
-      let body = body-good bytes version k judged in
+      let body = rewrite-judged z in
       let first = passed (knownVersion wanted) 4 (writeStops wanted k room ss) (omega arith) (rw (body .stops) at z) in
       let many : length ss ≡ 2 ^ k = length-tabulate (2 ^ k) (λ i. stopIn version i bytes) in
       let w = stops-written wanted k room ss many (first .goes-on) in

@@ -1,19 +1,21 @@
 -- Laws of what a path is written as: the parts of each record, and their lengths.
 use mathlib.Core.Path.{_≡_, refl, sym, _∙_}
 use mathlib.Core.List.{List, [], _∷_, _++_, append-assoc, append-nil}
-use Prim.Native.Nat.{ℕ, _+_, _*_, _^_, _≤_}
+use Prim.Native.Nat.{ℕ, _+_, _-_, _*_, _^_, _≤_}
 use native.Mathlib.Nat.{zero-mul, suc-mul, mul-le-mul-right}
 use native.Mathlib.Omega.{arith}
 use lib.IntN.{ℤ}
-use lib.ListN.{length, length-append}
+use lib.ListN.{length, take, drop, length-append}
+use lib.Seq.{drop-drop}
 use Rattle.base.specs.Outcome.{over}
+use Rattle.base.proofs.Outcome.{over-whole}
 use Rattle.base.proofs.Size.{pow-le-1024}
 use Rattle.records.specs.Field.{bytesOf}
 use Rattle.records.specs.Put.{put}
 use Rattle.records.specs.Record.{recordBytes, recordLength, laterFields}
 use Rattle.records.proofs.FieldLaws.{length-bytesOf}
 use Rattle.records.proofs.LengthLaws.{path-length, end-length}
-use Rattle.records.proofs.PutLaws.{put-front}
+use Rattle.records.proofs.PutLaws.{put-fits, put-front, put-three}
 use Rattle.records.proofs.RecordLaws.{length-recordBytes}
 use Rattle.records.proofs.Versions.{Layout, plain, blended, dwelling, layout}
 use Rattle.stop.specs.declared.Stop.{Stop}
@@ -101,3 +103,24 @@ stop-parts version s = rw (length-content version s) (content-parts version s (b
 -- what is put at the front is written over it
 pub put-over : (s v : List ℕ) → length v ≤ length s → put s 0 v ≡ over v s
 put-over s v h = put-front s v h
+
+-- and what fills it all is all that is left
+put-whole : (s v : List ℕ) → length v ≡ length s → put s 0 v ≡ v
+put-whole s v e = put-over s v (omega arith) ∙ over-whole v s e
+
+-- the parts of a stop's record, put one after the other into a part of its size
+pub stop-put : (version : ℕ) (s : Stop) (part t u r : List ℕ) → length part ≡ stopSize version → t ≡ put part 0 (bytesOf 2 (recordLength 2 version 0) ++ bytesOf 2 2) → u ≡ put t 4 (pointBytes (s .at)) → r ≡ put u 16 (paceBytes version (s .speed) (s .blend) (s .dwell)) → r ≡ stopBytes version s
+stop-put version s part t u r size et eu er =
+    let start = bytesOf 2 (recordLength 2 version 0) ++ bytesOf 2 2 in
+    let pace = paceBytes version (s .speed) (s .blend) (s .dwell) in
+    let first : length start ≡ 4 = rw (length-append, length-bytesOf, length-bytesOf) in
+    let second : length (pointBytes (s .at)) ≡ 12 = length-point (s .at) in
+    let third : 16 + length pace ≡ stopSize version = length-pace version (s .speed) (s .blend) (s .dwell) in
+    put-three part 0 start (pointBytes (s .at)) pace t u r 4 16 (omega arith) (omega arith) (omega arith) et eu er
+    ∙ rw (← stop-parts version s) (put-whole part (stopBytes version s) (length-stopBytes version s ∙ sym size))
+
+-- a part of a buffer that was written whole is put at its place
+pub put-part : (s : List ℕ) (at size : ℕ) (v part : List ℕ) → at + size ≤ length s → length v ≡ size → part ≡ v → take at s ++ (part ++ drop (at + size - at) (drop at s)) ≡ put s at v
+put-part s at size v part h n e =
+    let here : at + size - at ≡ size = omega arith in
+    rw (e, here, drop-drop size at s, put-fits s at v (omega arith), n, append-assoc)

@@ -1,5 +1,7 @@
 // The fields of a stop's record that lies within the bytes, read with no test for each byte. These functions have a `requires`: the module
 // is private.
+use crate::judge::HEAD_SIZE;
+use crate::judge::stop_size;
 use records::BLEND_SINCE;
 use records::DWELL_SINCE;
 use stop::Stop;
@@ -8,11 +10,11 @@ ghost use Prim.Native.Nat.{_+_, _≤_};
 ghost use lib.ListN.{length, take, drop};
 ghost use Rattle.base.specs.Buffer.{atEntry};
 ghost use Rattle.records.specs.Field.{numberOf, signed};
-ghost use Rattle.path.specs.Path.{stopOf, stopSize};
+ghost use Rattle.path.specs.Path.{stopOf, stopSize, stopPlace, stopIn};
 ghost use Rattle.path.specs.Local.{fieldSince};
 
 // The number of the two bytes from `at` on.
-fn word16(bytes: &[u8], at: usize) -> u16
+pub fn word16(bytes: &[u8], at: usize) -> u16
     requires { ⌜ at + 2 ≤ length (now bytes) ⌝ }
     ensures { λ r. ⌜ r ≡ numberOf (take 2 (drop at (atEntry bytes))) ⌝ }
 {
@@ -61,4 +63,12 @@ pub fn stop_in(bytes: &[u8], version: u16, at: usize) -> Stop
         blend: field_since(bytes, BLEND_SINCE, version, at + 14),
         dwell: field_since(bytes, DWELL_SINCE, version, at + 16),
     }
+}
+
+// Stop i of path bytes whose record lies within them: nothing is tested.
+pub fn stop_within(bytes: &[u8], version: u16, i: usize) -> Stop
+    requires { ⌜ stopPlace version i + stopSize version ≤ length (now bytes) ⌝ }
+    ensures { λ r. ⌜ r ≡ stopIn version i (atEntry bytes) ⌝ }
+{
+    stop_in(bytes, version, HEAD_SIZE + 4 + i * stop_size(version))
 }

@@ -2,6 +2,7 @@
 // judged bytes can be read at any stop.
 use crate::Head;
 use crate::bytes::stop_in;
+use crate::bytes::word16;
 use base::MAX_K;
 use base::TRAILING_BYTES;
 use base::WRONG_K;
@@ -15,11 +16,12 @@ use records::judge_record;
 use records::record_length;
 use stop::Stop;
 ghost use mathlib.Core.Path.{_≡_};
-ghost use Prim.Native.Nat.{_+_, _*_, min};
+ghost use Prim.Native.Nat.{_+_, _*_, _≤_, min};
+ghost use lib.Dec.{eqb};
 ghost use lib.ListN.{length, drop};
 ghost use Rattle.base.specs.Outcome.{refuses, number};
 ghost use Rattle.base.specs.Buffer.{atEntry};
-ghost use Rattle.records.specs.Record.{recordLength, takeRecord};
+ghost use Rattle.records.specs.Record.{recordLength, takeRecord, stopKind};
 ghost use Rattle.path.specs.Path.{knownVersion, readHead, readBody, readStop, bodyAfterHead, stopPlace, stopSize, stopIn};
 ghost use Rattle.stop.specs.Stop.{zeroStop};
 ghost use Rattle.path.specs.Reading.{headGiven};
@@ -135,17 +137,32 @@ fn judge_place(bytes: &[u8], version: u16, i: usize, kind: u16) -> u16
     judge_record(bytes, at, kind, record_length(kind, version))
 }
 
+// Whether a stop's record lies whole at `at`: one answer for a good record, found quickly. What else stands there is for `judge_record` to say.
+fn is_stop(bytes: &[u8], version: u16, at: usize) -> bool
+    requires { ⌜ at ≤ 8 + length (now bytes) ⌝ }
+    ensures { λ r. ⌜ r ≡ eqb (number (takeRecord stopKind (recordLength stopKind version 0) (drop at (atEntry bytes)))) 0 ⌝ }
+{
+    let long = record_length(STOP, version);
+    if bytes.len() < at + 2 + long {
+        return false;
+    }
+    if word16(bytes, at) as usize != long {
+        return false;
+    }
+    word16(bytes, at + 2) == STOP
+}
+
 // 0, or the refusal of the record of stop i: its own, or that of its fields.
 pub fn judge_stop(bytes: &[u8], version: u16, i: usize) -> u16
     ensures { λ r. ⌜ r ≡ number (readStop version (drop (stopPlace version i) (atEntry bytes))) ⌝ }
 {
-    let refused = judge_place(bytes, version, i, STOP);
-    if refused != 0 {
-        return refused;
+    let at = stop_place(bytes, version, i);
+    if !is_stop(bytes, version, at) {
+        return judge_place(bytes, version, i, STOP);
     }
-    let s = stop_from(bytes, version, i);
-    let at = s.at;
-    Stop::new(at, s.speed, s.blend, s.dwell).refused
+    let s = stop_in(bytes, version, at + 4);
+    let point = s.at;
+    Stop::new(point, s.speed, s.blend, s.dwell).refused
 }
 
 // 0, or the refusal of the end of a path of `count` stops.

@@ -1,4 +1,4 @@
-// The records of a path put into bytes, each whole or not at all. One function has a `requires`: the module is private.
+// The records of a path put into bytes, each whole or not at all. Some functions have a `requires`: the module is private.
 use crate::judge::stop_size;
 use records::BLEND_SINCE;
 use records::DWELL_SINCE;
@@ -56,20 +56,24 @@ fn put_pace(out: &mut [u8], at: usize, version: u16, speed: u16, blend: u16, dwe
     }
 }
 
-// Writes the record of a stop.
+// Writes the record of a stop to its own part of the output. The part's length is known, so no test of it is left in the compiled code.
+fn put_record(part: &mut [u8], version: u16, s: Stop)
+    requires { ⌜ length (now part) ≡ stopSize version ⌝ }
+    ensures { λ r. ⌜ now (part .exit) ≡ stopBytes version s ⌝ }
+{
+    let point = s.at;
+    put_start(part, 0, STOP, version);
+    put_point(part, 4, point);
+    put_pace(part, 16, version, s.speed, s.blend, s.dwell);
+}
+
+// Writes the record of a stop where there is room for it.
 pub fn put_stop(out: &mut [u8], at: usize, version: u16, s: Stop)
+    requires { ⌜ at + stopSize version ≤ length (now out) ⌝ }
     ensures { λ r. ⌜ now (out .exit) ≡ put (now (out .entry)) at (stopBytes version s) ⌝ }
 {
-    let size = stop_size(version);
-    if out.len() < size {
-        return;
-    }
-    if at <= out.len() - size {
-        let point = s.at;
-        put_start(out, at, STOP, version);
-        put_point(out, at + 4, point);
-        put_pace(out, at + 16, version, s.speed, s.blend, s.dwell);
-    }
+    let end = at + stop_size(version);
+    put_record(&mut out[at..end], version, s)
 }
 
 // Writes the head of a path.

@@ -1,9 +1,9 @@
 // Path bytes written in another version, from bytes to bytes.
 use crate::PathWritten;
+use crate::bytes::stop_within;
 use crate::judge::HEAD_SIZE;
 use crate::judge::judge_body;
 use crate::judge::known_version;
-use crate::judge::stop_from;
 use crate::judge::stop_size;
 use crate::output::judge_output;
 use crate::output::loses_field;
@@ -23,12 +23,16 @@ ghost use Rattle.records.specs.Put.{put};
 ghost use Rattle.path.specs.Path.{stopsIn, stopPlace, pathSize};
 ghost use Rattle.path.specs.Written.{losesAny, stopsBytes, pathBytes, rewriteAfterHead, RewritesPath};
 
-// Whether a version lacks a field that is not 0 of one of the first `count` stops of path bytes.
+// Whether a version lacks a field that is not 0 of one of the first `count` stops of path bytes. One that is no older lacks none.
 fn loses_in(wanted: u16, bytes: &[u8], version: u16, count: usize) -> bool
+    requires { ⌜ stopPlace version count ≤ length (now bytes) ⌝ }
     ensures { λ r. ⌜ r ≡ losesAny wanted (stopsIn version count (atEntry bytes)) ⌝ }
 {
+    if version <= wanted {
+        return false;
+    }
     for i in 0..count {
-        if loses_field(wanted, stop_from(bytes, version, i)) {
+        if loses_field(wanted, stop_within(bytes, version, i)) {
             return true;
         }
     }
@@ -37,7 +41,7 @@ fn loses_in(wanted: u16, bytes: &[u8], version: u16, count: usize) -> bool
 
 // Stores the records of the first `count` stops of path bytes.
 fn store_records(bytes: &[u8], version: u16, count: usize, wanted: u16, out: &mut [u8])
-    requires { ⌜ stopPlace wanted count ≤ length (now out) ⌝ }
+    requires { ⌜ (stopPlace wanted count ≤ length (now out)) × (stopPlace version count ≤ length (now bytes)) ⌝ }
     ensures { λ r. ⌜ atExit out ≡ put (atEntry out) 8 (stopsBytes wanted (stopsIn version count (atEntry bytes))) ⌝ }
 {
     let size = stop_size(wanted);
@@ -46,14 +50,14 @@ fn store_records(bytes: &[u8], version: u16, count: usize, wanted: u16, out: &mu
             out,
             HEAD_SIZE + i * size,
             wanted,
-            stop_from(bytes, version, i),
+            stop_within(bytes, version, i),
         );
     }
 }
 
 // Stores the path of the first 2^k stops of path bytes in another version.
 fn store_rewritten(bytes: &[u8], version: u16, k: u16, wanted: u16, out: &mut [u8])
-    requires { ⌜ (k ≤ maxK) × (pathSize wanted k ≤ length (now out)) ⌝ }
+    requires { ⌜ (k ≤ maxK) × (pathSize wanted k ≤ length (now out)) × (stopPlace version (2 ^ k) ≤ length (now bytes)) ⌝ }
     ensures { λ r. ⌜ atExit out ≡ over (pathBytes wanted k (stopsIn version (2 ^ k) (atEntry bytes))) (atEntry out) ⌝ }
 {
     let count = stop_count(k);

@@ -1,8 +1,9 @@
 -- `path::rewrite::rewrite_path` meets its contract: what was judged is stored.
-use mathlib.Core.Path.{_≡_, sym, _∙_}
+use mathlib.Core.Path.{sym, _∙_}
+use native.Mathlib.Omega.{arith}
 use borrow.Author.Needs.{needs}
 use Rattle.base.proofs.Outcome.{refused}
-use Rattle.path.proofs.WriteLaws.{Writable, rewritable, bytes-refused, bytes-done}
+use Rattle.path.proofs.WriteLaws.{rewrite-judged, rewritable, bytes-refused, bytes-done}
 use Rattle.path.proofs.rewrite.rewrite_path.Statement.{statement}
 use Rattle.path.proofs.rewrite.rewrite_path.Tie as tie
 
@@ -12,7 +13,7 @@ rewrite-path-spec =
     (tie.spec
     (λ c κs. search needs)
     (λ c. bytes-refused _ _ _ (refused _ _ (c .before .judge-rewrite .ensures) (c .if1 .taken)))
-    (λ c κs. let w = rewritable _ _ _ _ _ (sym (c .before .before .judge-rewrite .ensures) ∙ c .before .if1 .left) in (w .small, w .enough))
+    (λ c κs. let good = sym (c .before .before .judge-rewrite .ensures) ∙ c .before .if1 .left in let w = rewritable _ _ _ _ _ good in (w .small, w .enough, omega (arith, rewrite-judged _ _ _ _ _ good .size)))
     (λ c κs. rewritable _ _ _ _ _ (sym (c .before .before .before .before .before .judge-rewrite .ensures) ∙ c .before .before .before .before .if1 .left) .small)
     (λ c. search needs)
     (λ c.

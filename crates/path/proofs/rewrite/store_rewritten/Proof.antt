@@ -33,7 +33,7 @@ store-records-requires c κs =
     let count = c .before .before .before .before .before in
     let start = count .before .before .before in
     let a = start .args in
-    rw (counted count) (omega (arith, place-is (a .wanted) (2 ^ a .k), size-is (a .wanted) (a .k), start .pre .1, c .before .before .before .put-head .kept .0))
+    (rw (counted count) (omega (arith, place-is (a .wanted) (2 ^ a .k), size-is (a .wanted) (a .k), start .pre .1, c .before .before .before .put-head .kept .0)), rw (counted count) (start .pre .2))
 
 returns : tie.Need-returns
 returns c =

@@ -51,7 +51,7 @@ store-records-spec =
     (λ c. omega (arith, room (c .before)))
     (λ c. omega (arith, room (c .before)))
     (λ c κs. search needs)
-    (λ c κs. search needs)
+    (λ c κs. let turn = c .before .before in omega (arith, room turn, turn .before .before .stop-size .ensures, turn .before .loop .inv .2))
     (λ c. search needs)
     (λ c. search needs)
     loop-again
