@@ -25,9 +25,10 @@ REFUSALS = {
     8: "a lent buffer too short, a table not n² long, or k above 6 in the controller's calls or the program",
     9: "a stop number n or more in an order",
     10: "an order not allowed",
-    11: "an order file's total is not its order's",
+    11: "an order file's total is not its order's, or a group's sum is not",
     12: "a fork bit outside 1 to n−1 set, or bits not the order's",
     13: "a field not 0 that the version to be written lacks",
+    14: "a fork that is not 1 to n−1",
 }
 
 

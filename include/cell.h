@@ -63,7 +63,9 @@ enum cell_refusal {
     /* a fork bit outside 1 to n-1 set, or bits not the order's */
     CELL_WRONG_FORKS = 12,
     /* a field not 0 that the version to be written lacks */
-    CELL_LOST_FIELD = 13
+    CELL_LOST_FIELD = 13,
+    /* a fork that is not 1 to n-1; no call here takes a fork */
+    CELL_NO_SUCH_FORK = 14
 };
 
 /*

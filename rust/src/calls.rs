@@ -47,6 +47,7 @@ pub struct Lent<R: Room> {
     pub list: R::Of<u16>,
     pub empties: R::Of<u8>,
     pub work: R::Of<u64>,
+    pub sums: R::Of<u64>,
     pub out: R::Of<u8>,
 }
 
@@ -68,6 +69,7 @@ impl<R: Room> Lent<R> {
             list: room.hold(&self.list),
             empties: room.hold(&self.empties),
             work: room.hold(&self.work),
+            sums: room.hold(&self.sums),
             out: room.hold(&self.out),
         }
     }
@@ -89,6 +91,7 @@ impl<R: Room> Lent<R> {
             ("list", *self.list == *other.list),
             ("empties", *self.empties == *other.empties),
             ("work", *self.work == *other.work),
+            ("sums", *self.sums == *other.sums),
             ("out", *self.out == *other.out),
         ];
         same.into_iter().find(|(_, same)| !same).map(|(name, _)| name)
@@ -110,6 +113,8 @@ pub enum Call {
     ForkBits { k: u16 },
     OrderOfBits { k: u16 },
     Exchange { k: u16 },
+    GroupSums { highest: u16 },
+    ExchangeFork { highest: u16, fork: u16 },
     OrderTotal { k: u16 },
     WriteOrderFile { k: u16 },
     ReadOrderFile { k: u16 },
@@ -117,6 +122,13 @@ pub enum Call {
     CellPlan { highest: u16 },
     CellCheck { highest: u16 },
     CellRewrite { highest: u16, version: u16 },
+}
+
+impl Call {
+    /// Whether the call takes the set-up screen's records with a path: an order and its sums.
+    pub fn of_the_screen(&self) -> bool {
+        matches!(self, Call::GroupSums { .. } | Call::ExchangeFork { .. })
+    }
 }
 
 /// The values that a call gives, or the refusal's number.
@@ -173,6 +185,10 @@ macro_rules! made_to {
             Call::ForkBits { k } => $module::fork_bits(k, &$l.order, &mut $l.bits).map(|()| vec![]),
             Call::OrderOfBits { k } => $module::order_of_bits(k, &$l.bits, &mut $l.order).map(|()| vec![]),
             Call::Exchange { k } => $module::exchange(k, &$l.order, &$l.bits, &mut $l.list).map(|()| vec![]),
+            Call::GroupSums { highest } => $module::group_sums(&$l.bytes, highest, &$l.order, &mut $l.sums).map(|()| vec![]),
+            Call::ExchangeFork { highest, fork } => {
+                $module::exchange_fork(&$l.bytes, highest, fork, &mut $l.order, &mut $l.sums).map(|()| vec![])
+            }
             Call::OrderTotal { k } => $module::order_total(k, &$l.order, &$l.table).map(one),
             Call::WriteOrderFile { k } => $module::write_order_file(k, &$l.order, &$l.table, &mut $l.out).map(one),
             Call::ReadOrderFile { k } => $module::read_order_file(k, &$l.table, &$l.file, &mut $l.order, &mut $l.bits).map(one),

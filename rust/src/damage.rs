@@ -101,7 +101,7 @@ fn another_length<T: Copy + Default>(random: &mut Random, needed: usize, numbers
 /// One lent buffer of another length.
 fn spoil_length(random: &mut Random, lent: &mut Lent<Heap>) {
     let n = lent.table.len().isqrt();
-    match random.below(12) {
+    match random.below(13) {
         0 => another_length(random, 3 * n, &mut lent.coords),
         1 => another_length(random, n, &mut lent.speeds),
         2 => another_length(random, n, &mut lent.blends),
@@ -113,6 +113,7 @@ fn spoil_length(random: &mut Random, lent: &mut Lent<Heap>) {
         8 => another_length(random, n, &mut lent.empties),
         9 => another_length(random, n * n, &mut lent.work),
         10 => another_length(random, n, &mut lent.dwells),
+        11 => another_length(random, n, &mut lent.sums),
         _ => another_length(random, n.div_ceil(8), &mut lent.bits),
     }
 }
@@ -129,6 +130,8 @@ fn spoil_number(random: &mut Random, call: &mut Call) {
                 *d = usize::MAX - usize::from(other);
             }
         }
+        Call::GroupSums { highest } => *highest = other,
+        Call::ExchangeFork { highest, fork } => *(if random.below(2) == 0 { highest } else { fork }) = other,
         Call::CellRewrite { highest, version } => *(if random.below(2) == 0 { highest } else { version }) = other,
         Call::WritePath { version, k } | Call::TableFrom { version, k } => *(if random.below(2) == 0 { version } else { k }) = other,
         Call::Plan { k } | Call::PlanWeighings { k } | Call::Foretell { k } => *k = other,
@@ -145,12 +148,12 @@ fn put_at<T>(random: &mut Random, numbers: &mut [T], number: T) {
     }
 }
 
-/// Another content of a lent input: a stop's field, a stop of the order, two of them exchanged, a byte that says what is empty, a fork bit. In an
-/// output it changes the pattern alone.
+/// Another content of a lent input: a stop's field, a stop of the order, two of them exchanged, a byte that says what is empty, a group's sum, a fork
+/// bit. In an output it changes the pattern alone.
 fn spoil_content(random: &mut Random, lent: &mut Lent<Heap>) {
     let (edge, wide) = (one_of(random, &EDGES), one_of(random, &WIDE_EDGES));
     let n = lent.order.len();
-    match random.below(8) {
+    match random.below(9) {
         0 => put_at(random, &mut lent.coords, wide),
         1 => put_at(random, &mut lent.speeds, edge),
         2 => put_at(random, &mut lent.blends, edge),
@@ -158,6 +161,10 @@ fn spoil_content(random: &mut Random, lent: &mut Lent<Heap>) {
         4 => put_at(random, &mut lent.order, edge),
         5 => put_at(random, &mut lent.empties, edge as u8),
         6 if n > 0 => lent.order.swap(place(random, n), place(random, n)),
+        7 if !lent.sums.is_empty() => {
+            let at = place(random, lent.sums.len());
+            lent.sums[at] = lent.sums[at].wrapping_add(one_of(random, &[1, u64::MAX, 1 << 32, 1 << 63]));
+        }
         _ => put_at(random, &mut lent.bits, 1 << (edge % 8)),
     }
 }
@@ -168,6 +175,8 @@ pub fn spoil(random: &mut Random, call: &mut Call, lent: &mut Lent<Heap>) {
         call,
         Call::ReadPath { .. } | Call::TableFrom { .. } | Call::PlanPath { .. } | Call::Draw { .. } | Call::CellPlan { .. } | Call::CellCheck { .. } | Call::CellRewrite { .. }
     );
+    // the screen's records are spoiled as often as the path
+    let reads_path = reads_path || call.of_the_screen() && random.below(2) == 0;
     let reads_file = matches!(call, Call::ReadOrderFile { .. } | Call::CellCheck { .. });
     match random.below(8) {
         0 => spoil_number(random, call),

@@ -50,6 +50,12 @@ mod declared {
         pub fn ffi_exchange(
             k: u16, order: *const u16, order_len: usize, bits: *const u8, bits_len: usize, out: *mut u16, out_len: usize,
         ) -> i64;
+        pub fn ffi_group_sums(
+            bytes: *const u8, bytes_len: usize, highest: u16, order: *const u16, order_len: usize, sums: *mut u64, sums_len: usize,
+        ) -> i64;
+        pub fn ffi_exchange_fork(
+            bytes: *const u8, bytes_len: usize, highest: u16, fork: u16, order: *mut u16, order_len: usize, sums: *mut u64, sums_len: usize,
+        ) -> i64;
         pub fn ffi_order_total(k: u16, order: *const u16, order_len: usize, table: *const u32, table_len: usize) -> i64;
         pub fn ffi_write_order_file(
             k: u16, order: *const u16, order_len: usize, table: *const u32, table_len: usize, out: *mut u8, out_len: usize,
@@ -205,6 +211,19 @@ pub fn order_of_bits(k: u16, bits: &[u8], order: &mut [u16]) -> Result<(), u16> 
 pub fn exchange(k: u16, order: &[u16], bits: &[u8], out: &mut [u16]) -> Result<(), u16> {
     let (out, out_len) = (out.as_mut_ptr(), out.len());
     done(unsafe { declared::ffi_exchange(k, order.as_ptr(), order.len(), bits.as_ptr(), bits.len(), out, out_len) })
+}
+
+/// `screen::group_sums`.
+pub fn group_sums(bytes: &[u8], highest: u16, order: &[u16], sums: &mut [u64]) -> Result<(), u16> {
+    let (sums, sums_len) = (sums.as_mut_ptr(), sums.len());
+    done(unsafe { declared::ffi_group_sums(bytes.as_ptr(), bytes.len(), highest, order.as_ptr(), order.len(), sums, sums_len) })
+}
+
+/// `screen::exchange_fork`.
+pub fn exchange_fork(bytes: &[u8], highest: u16, fork: u16, order: &mut [u16], sums: &mut [u64]) -> Result<(), u16> {
+    let (order_len, sums_len) = (order.len(), sums.len());
+    let (order, sums) = (order.as_mut_ptr(), sums.as_mut_ptr());
+    done(unsafe { declared::ffi_exchange_fork(bytes.as_ptr(), bytes.len(), highest, fork, order, order_len, sums, sums_len) })
 }
 
 /// `orders::order_total`: the total.

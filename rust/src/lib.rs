@@ -3,7 +3,7 @@
 //! `ffi` declares the proved library's exported functions and the controller's calls once and wraps each once. `reading` is an independent
 //! reading of documents 01 and 02, written from them. `calls` makes any call to either and compares them on every buffer. `cases`, `world`
 //! and `damage` are the inputs from a fixed seed, good ones and ones with faults; `guard` has buffers between guard pages. `plain`,
-//! `plain_path`, `plain_times`, `plain_files`, `plain_filled` and `plain_jobs` are plain Rust that does what the calls do, for the benchmark, and
+//! `plain_path`, `plain_times`, `plain_files`, `plain_filled`, `plain_screen` and `plain_jobs` are plain Rust that does what the calls do, for the benchmark, and
 //! `cubic` is another method.
 
 pub mod calls;
@@ -17,6 +17,7 @@ pub mod plain_filled;
 mod plain_files;
 pub mod plain_jobs;
 pub mod plain_path;
+pub mod plain_screen;
 pub mod plain_times;
 pub mod random;
 pub mod reading;

@@ -36,6 +36,12 @@ pub(crate) fn in_range(stop: &Stop) -> bool {
     stop.at.iter().all(|x| (-20_000..=20_000).contains(x)) && (1..=2_000).contains(&stop.speed) && stop.blend <= 500 && stop.dwell <= 5_000
 }
 
+/// The stop in place i of a judged path.
+#[inline(always)]
+pub(crate) fn stop_at(bytes: &[u8], version: u16, i: usize) -> Stop {
+    stop(&bytes[12 + i * (2 + stop_length(version))..], version)
+}
+
 /// The length of a stop's record.
 #[inline(always)]
 fn stop_length(version: u16) -> usize {
@@ -114,7 +120,7 @@ impl Way for Indices {
     #[inline(always)]
     fn store(bytes: &[u8], version: u16, n: usize, coords: &mut [i32], speeds: &mut [u16], blends: &mut [u16], dwells: &mut [u16]) {
         for i in 0..n {
-            let stop = stop(&bytes[12 + i * (2 + stop_length(version))..], version);
+            let stop = stop_at(bytes, version, i);
             coords[3 * i..3 * i + 3].copy_from_slice(&stop.at);
             speeds[i] = stop.speed;
             blends[i] = stop.blend;
@@ -208,6 +214,15 @@ pub fn read_path(
     dwells: &mut [u16],
 ) -> Result<(u16, u16), u16> {
     read::<Indices>(bytes, highest, coords, speeds, blends, dwells)
+}
+
+/// Judges a path and stores nothing. `fit` tests what was lent, directly after k.
+#[inline(always)]
+pub(crate) fn judge_path<W: Way>(bytes: &[u8], highest: u16, fit: impl FnOnce(u16) -> Result<(), u16>) -> Result<(u16, u16), u16> {
+    let (version, k) = head(bytes, highest)?;
+    fit(k)?;
+    W::judge(bytes, version, 1 << k, |_, _| ())?;
+    Ok((version, k))
 }
 
 /// Reads a path into the caller's own stops, which may be written before the whole is judged. `fit` tests what was lent, directly after k.

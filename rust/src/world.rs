@@ -63,6 +63,7 @@ pub fn planner_lent(random: &mut Random, table: &[u32], order: usize, totals: us
         list: vec![],
         empties: vec![],
         work: vec![],
+        sums: vec![],
         out: vec![],
     }
 }
@@ -122,11 +123,12 @@ impl World {
     }
 
     /// Each call once, with numbers that suit this world.
-    pub fn calls(&self, random: &mut Random) -> [Call; 19] {
+    pub fn calls(&self, random: &mut Random) -> [Call; 21] {
         let k = self.k;
         let highest = self.version + random.below(u64::from(7 - self.version)) as u16;
         let version = 4 + random.below(3) as u16;
         let d = random.below((1 << k) + 3) as usize;
+        let fork = 1 + random.below(((1 << k) - 1).max(1)) as u16;
         [
             Call::ReadPath { highest },
             Call::WritePath { version, k },
@@ -140,6 +142,8 @@ impl World {
             Call::ForkBits { k },
             Call::OrderOfBits { k },
             Call::Exchange { k },
+            Call::GroupSums { highest },
+            Call::ExchangeFork { highest, fork },
             Call::OrderTotal { k },
             Call::WriteOrderFile { k },
             Call::ReadOrderFile { k },
@@ -173,6 +177,7 @@ impl World {
             list: pattern(random, n, |x| x as u16),
             empties: pattern(random, n, |x| x as u8),
             work: pattern(random, if self.k <= 6 { n * n } else { 0 }, |x| x),
+            sums: pattern(random, n, |x| x),
             out: pattern(random, out, |x| x as u8),
         };
         if matches!(call, Call::WritePath { .. } | Call::MakeTable { .. }) {
@@ -184,8 +189,11 @@ impl World {
         if matches!(call, Call::Plan { .. } | Call::PlanWeighings { .. } | Call::PlanFilled { .. } | Call::OrderTotal { .. } | Call::WriteOrderFile { .. } | Call::ReadOrderFile { .. }) {
             lent.table.copy_from_slice(&self.table);
         }
-        if matches!(call, Call::ForkBits { .. } | Call::Exchange { .. } | Call::OrderTotal { .. } | Call::WriteOrderFile { .. }) {
+        if matches!(call, Call::ForkBits { .. } | Call::Exchange { .. } | Call::OrderTotal { .. } | Call::WriteOrderFile { .. }) || call.of_the_screen() {
             lent.order[..n].copy_from_slice(&self.order);
+        }
+        if matches!(call, Call::ExchangeFork { .. }) {
+            reading::group_sums(&self.path, 6, &self.order, &mut lent.sums).expect("an allowed order");
         }
         if matches!(call, Call::OrderOfBits { .. }) {
             lent.bits[..n.div_ceil(8)].copy_from_slice(&self.bits);

@@ -59,6 +59,8 @@ fn every_call_with_faults() {
     }
     assert_eq!(seen.numbers("OrderOfBits"), [0, 5, 8, 12]);
     assert_eq!(seen.numbers("Exchange"), [0, 5, 8, 9, 10, 12]);
+    assert_eq!(seen.numbers("GroupSums"), [0, 1, 2, 3, 4, 5, 6, 7, 8, 9, 10]);
+    assert_eq!(seen.numbers("ExchangeFork"), [0, 1, 2, 3, 4, 5, 6, 7, 8, 9, 10, 11, 14]);
     assert_eq!(seen.numbers("PlanFilled"), [0, 5, 6, 8]);
     assert_eq!(seen.numbers("ReadOrderFile"), [0, 1, 2, 3, 5, 7, 8, 9, 10, 11, 12]);
 }
@@ -83,6 +85,8 @@ fn path_calls(k: u16, highest: u16) -> Vec<Call> {
     let mut calls = vec![
         Call::ReadPath { highest },
         Call::PlanPath { highest },
+        Call::GroupSums { highest },
+        Call::ExchangeFork { highest, fork: 1 },
         Call::CellPlan { highest },
         Call::CellCheck { highest },
         Call::CellRewrite { highest, version: 4 },
@@ -194,6 +198,10 @@ fn with_number(call: Call, number: u16) -> Vec<Call> {
         Call::ForkBits { .. } => vec![Call::ForkBits { k: number }],
         Call::OrderOfBits { .. } => vec![Call::OrderOfBits { k: number }],
         Call::Exchange { .. } => vec![Call::Exchange { k: number }],
+        Call::GroupSums { .. } => vec![Call::GroupSums { highest: number }],
+        Call::ExchangeFork { highest, fork } => {
+            vec![Call::ExchangeFork { highest: number, fork }, Call::ExchangeFork { highest, fork: number }]
+        }
         Call::OrderTotal { .. } => vec![Call::OrderTotal { k: number }],
         Call::WriteOrderFile { .. } => vec![Call::WriteOrderFile { k: number }],
         Call::ReadOrderFile { .. } => vec![Call::ReadOrderFile { k: number }],
@@ -206,7 +214,7 @@ fn with_number(call: Call, number: u16) -> Vec<Call> {
     }
 }
 
-/// Every number of 16 bits as k, as the highest known version and as the version to be written.
+/// Every number of 16 bits as k, as the highest known version, as the version to be written and as a fork.
 #[test]
 fn every_number() {
     let mut random = seeded("numbers");
@@ -251,6 +259,7 @@ fn every_length() {
             shortened(|lent, length| cut(&mut lent.bits, length));
             shortened(|lent, length| cut(&mut lent.list, length));
             shortened(|lent, length| cut(&mut lent.empties, length));
+            shortened(|lent, length| cut(&mut lent.sums, length));
             shortened(|lent, length| cut(&mut lent.out, length));
             if k <= 3 {
                 shortened(|lent, length| cut(&mut lent.table, length));

@@ -8,6 +8,7 @@ use evidence::{
     plain_filled::{self, One, Two},
     plain_jobs,
     plain_path::{self, Chunks, Indices},
+    plain_screen,
     plain_times,
     world::each_case,
 };
@@ -57,6 +58,14 @@ fn by_plain(call: Call) -> Vec<Plain> {
         Call::PlanFilled { k } => vec![
             Box::new(move |l| plain_filled::plan_filled::<One>(k, &l.table, &l.empties, &mut l.list, &mut l.bits, &mut l.work).map(listed)),
             Box::new(move |l| plain_filled::plan_filled::<Two>(k, &l.table, &l.empties, &mut l.list, &mut l.bits, &mut l.work).map(listed)),
+        ],
+        Call::GroupSums { highest } => vec![
+            Box::new(move |l| plain_screen::group_sums::<Indices>(&l.bytes, highest, &l.order, &mut l.sums).map(|()| vec![])),
+            Box::new(move |l| plain_screen::group_sums::<Chunks>(&l.bytes, highest, &l.order, &mut l.sums).map(|()| vec![])),
+        ],
+        Call::ExchangeFork { highest, fork } => vec![
+            Box::new(move |l| plain_screen::exchange_fork::<Indices>(&l.bytes, highest, fork, &mut l.order, &mut l.sums).map(|()| vec![])),
+            Box::new(move |l| plain_screen::exchange_fork::<Chunks>(&l.bytes, highest, fork, &mut l.order, &mut l.sums).map(|()| vec![])),
         ],
         Call::CellPlan { highest } => vec![
             Box::new(move |l| signed(plain_jobs::cell_plan::<Slices>(&l.bytes, highest, &mut l.out))),

@@ -1,7 +1,13 @@
 //! What the test programs are held to, beside the independent reading.
 
-use evidence::reading::plan_filled;
+use evidence::reading::{exchange_fork, group_sums, plan_filled};
 use std::{fs, path::Path};
+
+/// A file below crates/.
+fn text(name: &str) -> String {
+    let path = Path::new(env!("CARGO_MANIFEST_DIR")).join("../crates").join(name);
+    fs::read_to_string(path).expect(name)
+}
 
 /// The entry from stop a to stop b of a table by a rule, as crates/test_filled/src/table.rt has it.
 fn entry(rule: u64, a: u64, b: u64) -> u32 {
@@ -41,13 +47,73 @@ fn due(call: &str) -> String {
 /// Every filling of up to 8 stops by enumeration, and some of more.
 #[test]
 fn lists_of_filled_stops() {
-    let name = Path::new(env!("CARGO_MANIFEST_DIR")).join("../crates/test_filled/stdout");
-    let stored = fs::read_to_string(name).expect("crates/test_filled/stdout");
     let mut lines = 0;
-    for line in stored.lines() {
+    for line in text("test_filled/stdout").lines() {
         let (call, written) = line.split_once(": ").expect("a call and its answer");
         assert_eq!(written, due(call), "{call}");
         lines += 1;
     }
     assert!(lines > 4 * (2 + 4 + 16 + 256), "{lines} lines");
+}
+
+/// The bytes of a path that crates/test_screen/src/paths.rt names: one, fifty or eight.
+fn screen_path(name: &str) -> Vec<u8> {
+    let code = text("test_screen/src/paths.rt");
+    let body = code.split(&format!("fn {name}(")).nth(1).expect("a path");
+    let literal = body.split('"').nth(1).expect("its bytes");
+    literal.split("\\x").skip(1).map(|byte| u8::from_str_radix(byte, 16).expect("two hexadecimal digits")).collect()
+}
+
+/// What a session of crates/test_screen holds: the bytes of a path, an order and sums.
+struct Session {
+    bytes: [u8; 188],
+    order: [u16; 9],
+    sums: [u64; 9],
+}
+
+impl Session {
+    /// The rest of the line that a case writes, after its name. `words` are what crates/test_screen/src/session.rt says of each.
+    fn due(&mut self, words: &[&str]) -> String {
+        let number = |i: usize| words[i].parse::<u64>().expect("a number");
+        let place = |i: usize| number(i) as usize;
+        let made = match words[0] {
+            "path" => {
+                let path = screen_path(words[1]);
+                self.bytes[..path.len()].copy_from_slice(&path);
+                let change = u16::from_str_radix(words[2], 16).expect("a place and a byte");
+                if change != 0 {
+                    self.bytes[usize::from(change / 256)] = change as u8;
+                }
+                (self.order, self.sums) = ([77; 9], [77; 9]);
+                return String::new();
+            }
+            "order" => {
+                (0..place(1)).for_each(|i| self.order[i] = number(2 + i) as u16);
+                return String::new();
+            }
+            "sum" => {
+                self.sums[place(1)] = number(2);
+                return String::new();
+            }
+            "make" => group_sums(&self.bytes[..place(1)], number(2) as u16, &self.order[..place(3)], &mut self.sums[..place(4)]),
+            "exchange" => {
+                let (bytes, order, sums) = (&self.bytes[..place(2)], &mut self.order[..place(4)], &mut self.sums[..place(5)]);
+                exchange_fork(bytes, number(3) as u16, number(1) as u16, order, sums)
+            }
+            word => panic!("{word}"),
+        };
+        let number = made.map_or_else(|number| number, |()| 0);
+        format!(": {number}, order{}, sums{}", spaced(&self.order, u16::to_string), spaced(&self.sums, u64::to_string))
+    }
+}
+
+/// The screen's sessions, case by case.
+#[test]
+fn sessions_of_the_screen() {
+    let mut session = Session { bytes: [0; 188], order: [77; 9], sums: [77; 9] };
+    let cases = text("test_screen/stdin");
+    let cases = cases.lines().filter_map(|line| line.split_once(": "));
+    let due: Vec<String> = cases.map(|(name, words)| name.to_owned() + &session.due(&words.split(' ').collect::<Vec<_>>())).collect();
+    assert_eq!(text("test_screen/stdout").lines().collect::<Vec<_>>(), due);
+    assert!(due.len() > 100);
 }

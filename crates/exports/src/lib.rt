@@ -18,6 +18,7 @@ use path::PathWritten;
 use path_plan::PathPlanned;
 use planner::Foretold;
 use planner::Planned;
+use screen::RecordsMade;
 use signed::refusal;
 use signed::value;
 use times::TableMade;
@@ -31,6 +32,7 @@ ghost use Rattle.planner.specs.Weighings.{foretold};
 ghost use Rattle.planner.specs.Plan.{PlansOrder, said as orderPlanned};
 ghost use Rattle.path_plan.specs.PathPlan.{PlansPath, said as pathPlanned};
 ghost use Rattle.filled.specs.Filled.{PlansList, said as listPlanned};
+ghost use Rattle.screen.specs.Screen.{MakesSums, ExchangesFork, said as recordsMade};
 ghost use Rattle.orders.specs.ForkBits.{MakesBits, said as bitsMade};
 ghost use Rattle.orders.specs.OrderOfBits.{MakesOrder, said as orderMade};
 ghost use Rattle.orders.specs.OrderTotal.{orderTotal};
@@ -255,6 +257,36 @@ pub extern "C" fn ffi_exchange(k: u16, order: &[u16], bits: &[u8], out: &mut [u1
     match answer {
         OrderMade::Made => 0,
         OrderMade::Refused(number) => refusal(number),
+    }
+}
+
+// `screen::group_sums`: 0.
+#[no_mangle]
+pub extern "C" fn ffi_group_sums(bytes: &[u8], highest: u16, order: &[u16], sums: &mut [u64]) -> i64
+    ensures { λ r. ⌜ Exported (MakesSums bytes highest order sums) (λ a. signed nothing (recordsMade a)) r ⌝ }
+{
+    let answer = screen::group_sums(bytes, highest, order, sums);
+    match answer {
+        RecordsMade::Made => 0,
+        RecordsMade::Refused(number) => refusal(number),
+    }
+}
+
+// `screen::exchange_fork`: 0.
+#[no_mangle]
+pub extern "C" fn ffi_exchange_fork(
+    bytes: &[u8],
+    highest: u16,
+    fork: u16,
+    order: &mut [u16],
+    sums: &mut [u64],
+) -> i64
+    ensures { λ r. ⌜ Exported (ExchangesFork bytes highest fork order sums) (λ a. signed nothing (recordsMade a)) r ⌝ }
+{
+    let answer = screen::exchange_fork(bytes, highest, fork, order, sums);
+    match answer {
+        RecordsMade::Made => 0,
+        RecordsMade::Refused(number) => refusal(number),
     }
 }
 

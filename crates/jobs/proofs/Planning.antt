@@ -32,7 +32,7 @@ use Rattle.order_file.specs.Write.{said, writeFile, FileIsWritten}
 use Rattle.order_file.proofs.Calls.{Writes, write-gives}
 use Rattle.path_plan.specs.PathPlan.{wantedOrder, wantedTotal}
 use Rattle.path_plan.proofs.Claim.{table-wanted, table-total}
-use Rattle.path_plan.proofs.Meaning.{read-same}
+use Rattle.path.proofs.Inverse.{read-same}
 use Rattle.jobs.specs.Limit.{jobMaxK}
 use Rattle.jobs.specs.Local.{Ready, FileIsLeft, fileAfterHead}
 use Rattle.jobs.specs.Plan.{planTest, wantedFile, planFile, Carries, FileIsPlanned}

@@ -32,7 +32,8 @@ use Rattle.order_file.proofs.RoundTrip.{file-good, total-fits}
 use Rattle.path_plan.specs.Calls.{AcceptedRun}
 use Rattle.path_plan.specs.Claim.{ShortestFor}
 use Rattle.path_plan.specs.PathPlan.{wantedOrder, wantedTotal}
-use Rattle.path_plan.proofs.Meaning.{GoodPath, path-good, read-same}
+use Rattle.path.proofs.Inverse.{read-same}
+use Rattle.path_plan.proofs.Meaning.{GoodPath, path-good}
 use Rattle.path_plan.proofs.Claim.{table-wanted, table-total, run-shortest}
 use Rattle.jobs.specs.Limit.{jobMaxK, smallEnough}
 use Rattle.jobs.specs.Plan.{planTest, wantedFile, planFile}

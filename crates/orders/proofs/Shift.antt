@@ -10,8 +10,10 @@ use lib.Bits.{bitXor}
 use lib.Dec.{ltb}
 use lib.Pow.{pow-pos, pow-lt}
 use borrow.Author.Tests.{le-leb, lt-leb, lt-ltb, le-ltb, eq-eqb, ne-eqb}
-use Rattle.tree.specs.Neighbour.{trail, reach, mayFollow, lowestFork, forkState}
-use Rattle.tree.proofs.Beside.{trail-lt}
+use Rattle.base.specs.Size.{maxK, stopCount}
+use Rattle.base.proofs.Size.{stopCount-pow, pow-le-1024}
+use Rattle.tree.specs.Neighbour.{trail, reach, reachOf, mayFollow, lowestFork, forkState}
+use Rattle.tree.proofs.Beside.{trail-lt, reachOf-pos}
 use Rattle.tree.proofs.Bit.{shr-add}
 use Rattle.orders.specs.Bits.{raised, marked}
 
@@ -35,6 +37,24 @@ lowest-shift k p b x y =
     let e : k ≡ h + suc t = omega arith in
     let d : k - h ≡ suc t = omega arith in
     rw (d, ← pow-succ' 2 t) (ap (λ n. (2 ^ n + b) / 2 ^ suc t) e ∙ shr-add h (suc t) b)
+
+-- what code that goes by places knows of n and r
+pub record Known (k p n r : ℕ) : Type 0 where
+  pub count : n ≡ 2 ^ k
+  pub small : n ≤ 1024
+  pub is : r ≡ reach p
+  pub pos : 0 < r
+  pub below : r < n
+
+pub known : (k p n r : ℕ) → k ≤ maxK → 0 < p → p < 2 ^ k → n ≡ stopCount k → r ≡ reachOf p → Known k p n r
+known k p n r h a b e f =
+    let c : n ≡ 2 ^ k = e ∙ stopCount-pow k h in
+    let i : r ≡ reach p = f ∙ reachOf-pos p a in
+    record { count = c; small = omega (arith, pow-le-1024 k h); is = i; pos = omega (arith, reach-pos p); below = omega (arith, reach-lt k p a b) }
+
+-- the fork's number as the code has it
+pub fork-is : (k p b n r : ℕ) → 0 < p → p < 2 ^ k → Known k p n r → (n + b) / (2 * r) ≡ lowestFork k p b
+fork-is k p b n r x y w = rw (w .count, w .is) (lowest-shift k p b x y)
 
 module _ (k p b : ℕ) (s : List ℕ) where
   -- an exchanged fork's bit is set

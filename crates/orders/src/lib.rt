@@ -9,7 +9,7 @@ mod places;
 mod sum;
 
 use base::stop_count;
-use judge::judge_lent;
+pub use judge::judge_lent;
 pub use sum::sum_moves;
 ghost use mathlib.Core.Path.{_≡_};
 ghost use Rattle.base.specs.Buffer.{atEntry};

@@ -99,6 +99,12 @@ accepted-of bytes highest test version k ss = by-head (readHead bytes highest) r
     by-head h eh (good-head v j p q r l) e = by-test v j eh p q r l (test j) refl e
     by-head h eh (bad-head n f) e = absurd (let w : _≡_ {A = ℕ} 0 1 = cc in omega arith)
 
+-- it is read the same by any caller whose own test passes
+pub read-same : (bytes : List ℕ) (highest : ℕ) (test test′ : ℕ → Outcome Unit) (version k : ℕ) (ss : List Stop) → readPath bytes highest test ≡ gives (path version k ss)
+    → test′ k ≡ gives tt → readPath bytes highest test′ ≡ gives (path version k ss)
+unfolding readPath readOn
+read-same bytes highest test test′ version k ss e f = let a = accepted-of bytes highest test version k ss e in rw (a .opened, f, a .body)
+
 -- ---- the head
 
 pub record Opened (bytes : List ℕ) (highest version k : ℕ) (rest : List ℕ) : Type 0 where

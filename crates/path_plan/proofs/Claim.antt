@@ -23,7 +23,8 @@ use Rattle.planner.specs.Plan.{planOrder, OrderIsPlanned}
 use Rattle.planner.proofs.Judged.{when-planned, total-said}
 use Rattle.path_plan.specs.Claim.{ShortestFor}
 use Rattle.path_plan.specs.Calls.{AcceptedRun}
-use Rattle.path_plan.proofs.Meaning.{GoodPath, path-good, read-same}
+use Rattle.path.proofs.Inverse.{read-same}
+use Rattle.path_plan.proofs.Meaning.{GoodPath, path-good}
 
 -- what an accepted reading left: the path's stops, over the fronts of the buffers
 pub record StopsLeft (bytes : List ℕ) (highest version k : ℕ) (lent lent′ : LentStops) : Type 0 where

@@ -1,13 +1,13 @@
--- What an accepted path is: 2^k stops in range, the same whatever buffers were lent and whatever highest version was known.
-use mathlib.Core.Path.{_≡_, refl, sym, ap, _∙_}
+-- What an accepted path is: 2^k stops in range.
+use mathlib.Core.Path.{_≡_}
 use mathlib.Core.Bool.{true}
 use mathlib.Core.List.{List}
 use Prim.Native.Nat.{ℕ, _^_, _≤_}
 use lib.ListN.{length, drop}
-use Rattle.base.specs.Outcome.{Outcome, gives, giving}
+use Rattle.base.specs.Outcome.{Outcome, gives}
 use Rattle.stop.specs.declared.Stop.{Stop}
 use Rattle.stop.specs.Lent.{allInRange}
-use Rattle.path.specs.Path.{path, readBody, readOn, readPath}
+use Rattle.path.specs.Path.{path, readBody, readPath}
 use Rattle.path.proofs.Inverse.{accepted-of, Accepted}
 use Rattle.path.proofs.RoundTrip.{body-facts}
 
@@ -23,9 +23,3 @@ path-good bytes highest test version k ss e =
     let a = accepted-of bytes highest test version k ss e in
     let f = body-facts version (2 ^ k) (drop 8 bytes) ss (a .body) in
     record { small = a .small; count = f .count; good = f .range }
-
--- it is read the same by any caller whose own test passes
-pub read-same : (bytes : List ℕ) (highest : ℕ) (test test′ : ℕ → Outcome Unit) (version k : ℕ) (ss : List Stop) → readPath bytes highest test ≡ gives (path version k ss)
-    → test′ k ≡ gives tt → readPath bytes highest test′ ≡ gives (path version k ss)
-unfolding readPath readOn
-read-same bytes highest test test′ version k ss e f = let a = accepted-of bytes highest test version k ss e in rw (a .opened, f, a .body)

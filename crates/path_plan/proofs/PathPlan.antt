@@ -30,7 +30,8 @@ use Rattle.path_plan.specs.declared.PathPlanned.the-variants.{Done, Refu
 use Rattle.path_plan.specs.Claim.{ShortestFor}
 use Rattle.path_plan.specs.Local.{withHeading}
 use Rattle.path_plan.specs.PathPlan.{planPath, said, PathIsPlanned}
-use Rattle.path_plan.proofs.Meaning.{GoodPath, path-good, read-same}
+use Rattle.path.proofs.Inverse.{read-same}
+use Rattle.path_plan.proofs.Meaning.{GoodPath, path-good}
 use Rattle.path_plan.proofs.Claim.{table-wanted, table-total}
 
 module _ (bytes : List ℕ) (highest : ℕ) (table order totals pivots : List ℕ) where

@@ -20,12 +20,14 @@ pub const WRONG_SIZE: u16 = 8;
 pub const WRONG_STOP: u16 = 9;
 /// 'an order not allowed'
 pub const NOT_ALLOWED: u16 = 10;
-/// 'an order file's total is not its order's'
+/// 'an order file's total is not its order's'; M-109: '11 if a sum, place 0 included, is not the order's'
 pub const WRONG_TOTAL: u16 = 11;
 /// 'a fork bit outside 1 to n−1 set, or bits not the order's'
 pub const WRONG_FORKS: u16 = 12;
 /// M-102: 'any field not 0 that the version to be written lacks'
 pub const LOST_FIELD: u16 = 13;
+/// M-109: 'A fork out of range is 14'; M-101: 'the fork is not 1 to n−1'
+pub const NO_SUCH_FORK: u16 = 14;
 
 /// The refusal of this number where the condition does not hold.
 pub(super) fn require(condition: bool, number: u16) -> Result<(), u16> {

@@ -5,6 +5,7 @@ mod examples;
 mod filled;
 mod orders;
 mod paths;
+mod screen;
 
 use evidence::{
     cases::{any_set, seeded},

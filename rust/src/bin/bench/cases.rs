@@ -8,6 +8,7 @@ use evidence::{
     plain_filled::{self, Fill, One, Two},
     plain_jobs,
     plain_path::{self, Chunks, Indices, Way},
+    plain_screen,
     plain_times,
     random::Random,
     world::World,
@@ -80,6 +81,30 @@ const CASES: &[Case] = &[
         paths: &[(6, 5)],
         proved: |k, l| some_filled(l, |l| ffi::plan_filled(k, &l.table, &l.empties, &mut l.list, &mut l.bits, &mut l.work)),
         plain: &[("one stop at a time", plain_filled_some::<One>), ("two stops at a time", plain_filled_some::<Two>)],
+    },
+    Case {
+        name: "group_sums",
+        call: |_| Call::GroupSums { highest: 6 },
+        paths: &[(6, 6), (10, 6)],
+        proved: |_, l| ffi::group_sums(&l.bytes, 6, &l.order, &mut l.sums).map(|()| l.sums[1]),
+        plain: &[("indices", plain_sums::<Indices>), ("chunks", plain_sums::<Chunks>)],
+    },
+    Case {
+        name: "exchange_fork, the root",
+        call: |_| Call::ExchangeFork { highest: 6, fork: 1 },
+        paths: &[(6, 6), (10, 6)],
+        proved: |_, l| ffi::exchange_fork(&l.bytes, 6, 1, &mut l.order, &mut l.sums).map(|()| 0),
+        plain: &[
+            ("indices", |_, l| plain_screen::exchange_fork::<Indices>(&l.bytes, 6, 1, &mut l.order, &mut l.sums).map(|()| 0)),
+            ("chunks", |_, l| plain_screen::exchange_fork::<Chunks>(&l.bytes, 6, 1, &mut l.order, &mut l.sums).map(|()| 0)),
+        ],
+    },
+    Case {
+        name: "exchange_fork, the last",
+        call: |k| Call::ExchangeFork { highest: 6, fork: last_fork(k) },
+        paths: &[(6, 6), (10, 6)],
+        proved: |k, l| ffi::exchange_fork(&l.bytes, 6, last_fork(k), &mut l.order, &mut l.sums).map(|()| 0),
+        plain: &[("indices", plain_exchange_last::<Indices>), ("chunks", plain_exchange_last::<Chunks>)],
     },
     Case {
         name: "cell_plan",
@@ -159,6 +184,19 @@ fn plain_filled_all<F: Fill>(k: u16, l: &mut Lent<Heap>) -> Result<u64, u16> {
 
 fn plain_filled_some<F: Fill>(k: u16, l: &mut Lent<Heap>) -> Result<u64, u16> {
     some_filled(l, |l| plain_filled::plan_filled::<F>(k, &l.table, &l.empties, &mut l.list, &mut l.bits, &mut l.work))
+}
+
+/// The order's total: the sum of the root.
+fn plain_sums<W: Way>(_: u16, l: &mut Lent<Heap>) -> Result<u64, u16> {
+    plain_screen::group_sums::<W>(&l.bytes, 6, &l.order, &mut l.sums).map(|()| l.sums[1])
+}
+
+fn last_fork(k: u16) -> u16 {
+    (1 << k) - 1
+}
+
+fn plain_exchange_last<W: Way>(k: u16, l: &mut Lent<Heap>) -> Result<u64, u16> {
+    plain_screen::exchange_fork::<W>(&l.bytes, 6, last_fork(k), &mut l.order, &mut l.sums).map(|()| 0)
 }
 
 fn plain_cell_plan<S: Step>(_: u16, l: &mut Lent<Heap>) -> Result<u64, u16> {

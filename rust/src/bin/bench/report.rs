@@ -20,7 +20,8 @@ const CALLS: &str = "\
 Paths of 2^k stops whose fields take their whole range. `plan_path` leads from path bytes to the order. Plain Rust goes through the records by
 indices or takes them off the front as arrays (chunks); its `cell_check` makes no table and sums the n − 1 moves; the planner's ways are those
 below. `table_from` makes the table from path bytes.
-`plan_filled` weighs one stop's candidates at a time or those of two neighbouring stops together.";
+`plan_filled` weighs one stop's candidates at a time or those of two neighbouring stops together. `exchange_fork` validates order and sums before it exchanges
+the root or the last fork; each call undoes the one before.";
 
 const PLANNER: &str = "\
 `planner::plan` for one table of random entries below 4,000,001 for each k. The paper's order goes through each stop's candidates, 'along rows'

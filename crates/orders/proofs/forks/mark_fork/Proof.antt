@@ -1,35 +1,13 @@
 -- `orders::forks::mark_fork` meets its contract: to halve a number t times is to divide it by the reach.
-use mathlib.Core.Path.{_≡_, sym, ap, _∙_}
-use Prim.Native.Nat.{ℕ, _+_, _*_, _/_, _^_, _≤_, _<_}
+use mathlib.Core.Path.{sym, ap, _∙_}
+use Prim.Native.Nat.{ℕ, _+_, _*_, _/_, _<_}
 use native.Mathlib.Nat.{div-div-eq-div-mul, div-le-self}
 use native.Mathlib.Omega.{arith}
-use Rattle.base.specs.Size.{maxK, stopCount}
-use Rattle.base.proofs.Size.{stopCount-pow, pow-le-1024}
-use Rattle.tree.specs.Neighbour.{reach, reachOf, lowestFork}
-use Rattle.tree.proofs.Beside.{reachOf-pos}
 use Rattle.orders.specs.Bits.{raised}
-use Rattle.orders.proofs.Shift.{reach-pos, reach-lt, lowest-shift, marked-exchanged, marked-kept}
+use Rattle.orders.proofs.Shift.{Known, known, fork-is, marked-exchanged, marked-kept}
 use borrow.Author.Needs.{needs}
 use Rattle.orders.proofs.forks.mark_fork.Statement.{statement}
 use Rattle.orders.proofs.forks.mark_fork.Tie as tie
-
--- what the calls give: n and r
-record Known (k p n r : ℕ) : Type 0 where
-  count : n ≡ 2 ^ k
-  small : n ≤ 1024
-  is : r ≡ reach p
-  pos : 0 < r
-  below : r < n
-
-known : (k p n r : ℕ) → k ≤ maxK → 0 < p → p < 2 ^ k → n ≡ stopCount k → r ≡ reachOf p → Known k p n r
-known k p n r h a b e f =
-    let c : n ≡ 2 ^ k = e ∙ stopCount-pow k h in
-    let i : r ≡ reach p = f ∙ reachOf-pos p a in
-    record { count = c; small = omega (arith, pow-le-1024 k h); is = i; pos = omega (arith, reach-pos p); below = omega (arith, reach-lt k p a b) }
-
--- the fork's number as the code has it
-fork-is : (k p b n r : ℕ) → 0 < p → p < 2 ^ k → Known k p n r → (n + b) / (2 * r) ≡ lowestFork k p b
-fork-is k p b n r x y w = rw (w .count, w .is) (lowest-shift k p b x y)
 
 -- it is below n
 fork-lt : (n b r : ℕ) → b < n → (n + b) / (2 * r) < n

@@ -1,0 +1,7 @@
+-- Laws of the crate's definitions.
+pub mod SumFrom
+pub mod Block
+pub mod Travel
+pub mod Between
+pub mod Adds
+pub mod InPlace
