@@ -1,7 +1,7 @@
 #!/usr/bin/env python3
 """Makes the sample paths of examples/paths: NAME.path is read, and NAME.answer is what the program must write. And the samples of examples/files:
 NAME.order is an order file to be checked against NAME.path by a controller that knows versions up to NAME.highest, and NAME.result is what the check
-gives.
+gives. And the samples of examples/orders: NAME.path is read, and NAME.text is what the program all_orders must print.
 
 The answers of good paths are found by trying every set of forks, which is feasible up to k = 3, or are known for another reason that
 stands beside them. Run it anywhere; it writes beside itself.
@@ -181,8 +181,42 @@ def files():
     yield "refused-11-dwell-left-out", path(6, 2, RESTING["last"]), order_file(2, FIFTY, 6), 6, -11
 
 
+def line(k, stops, forks):
+    """The total, then the stops by place."""
+    order = order_of(k, forks)
+    return b"%d" % total(order, stops) + b"".join(b" %d" % stop for stop in order) + b"\n"
+
+
+def orders():
+    """The name of each sample, its bytes and the text of all its orders, or the line of its refusal."""
+    pair = full([(0, 0, 0, 300), (21, 0, 0, 700)])
+    assert b"".join(line(1, pair, forks) for forks in (0, 2)) == b"3 0 1\n7 1 0\n"
+    # the longest lines: stops at the two ends in turn, 4,000,000 ms from each to the other
+    far = full([(20000 if i % 2 else -20000, 0, 0, 1) for i in range(8)])
+    good = [("one", 0, ONE), ("pair", 1, pair), ("fifty", 2, FIFTY), ("eight", 3, EIGHT)]
+    samples = [(f"good-{name}-{version}", version, k, stops) for name, k, stops in good for version in (4, 5, 6)]
+    samples += [("good-blended-5", 5, 1, BLENDED), ("good-corner-5", 5, 2, CORNER), ("good-dwells-6", 6, 3, SOFT), ("good-far-4", 4, 3, far)]
+    samples += [("good-alike-6", 6, 3, ALIKE[:8])]
+    for name, version, k, stops in samples:
+        # the sets are the even numbers below 2^n: bit v is fork v, and bit 0 is no fork
+        yield name, path(version, k, stops), b"".join(line(k, stops, forks) for forks in range(0, 1 << (1 << k), 2))
+    # what the other program refuses this one refuses by the same number, except that k from 4 on is 5 here and k from 7 on 8 there
+    for name, given, answer in paths():
+        if name.startswith("refused-") and not name.startswith(("refused-7-", "refused-8-")):
+            yield name, given, b"%d\n" % answer[4]
+    longest = path(6, 3, SOFT)
+    yield "refused-7-one-byte", path(4, 2, FIFTY) + b"\x00", b"7\n"
+    yield "refused-7-after-longest", longest + b"\x00", b"7\n"
+    yield "refused-7-long", longest + bytes(5000), b"7\n"
+    yield "refused-5-k-4", path(4, 4, full([(0,)] * 16)), b"5\n"
+    yield "refused-5-k-4-before-its-stops", head(6, 4), b"5\n"
+    yield "refused-5-k-6", path(6, 6, ALIKE), b"5\n"
+    yield "refused-5-k-7-before-8", path(4, 7, full([(0,)] * 128)), b"5\n"
+    yield "refused-5-k-10", head(5, 10), b"5\n"
+
+
 def main():
-    made = {"paths": (".path", ".answer"), "files": (".path", ".order", ".highest", ".result")}
+    made = {"paths": (".path", ".answer"), "files": (".path", ".order", ".highest", ".result"), "orders": (".path", ".text")}
     for folder, suffixes in made.items():
         os.makedirs(os.path.join(HERE, folder), exist_ok=True)
         for name in os.listdir(os.path.join(HERE, folder)):
@@ -190,6 +224,7 @@ def main():
                 os.remove(os.path.join(HERE, folder, name))
     samples = [("paths", name, contents) for name, *contents in paths()]
     samples += [("files", name, (given, order, b"%d\n" % highest, b"%d\n" % result)) for name, given, order, highest, result in files()]
+    samples += [("orders", name, contents) for name, *contents in orders()]
     for folder, name, contents in samples:
         for suffix, content in zip(made[folder], contents):
             with open(os.path.join(HERE, folder, name + suffix), "wb") as out:

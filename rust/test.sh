@@ -7,6 +7,8 @@ mkdir -p target
 for name in exports cell; do
     rt staticlib "$name" >target/rust.log 2>&1 || { cat target/rust.log; exit 1; }
 done
+# the program that tests/programs.rs runs
+rt check all_orders >target/rust.log 2>&1 || { cat target/rust.log; exit 1; }
 cd rust
 what=${1:-tests}
 if [ "$what" != valgrind ]; then

@@ -1,7 +1,19 @@
-//! What the test programs are held to, beside the independent reading.
+//! What programs are held to, beside the independent reading.
 
-use evidence::reading::{exchange_fork, group_sums, plan_filled};
-use std::{fs, path::Path};
+use evidence::{
+    cases::{rounds, seeded},
+    damage::damage,
+    random::Random,
+    reading::{all_orders, exchange_fork, group_sums, plan_filled},
+    world::World,
+};
+use std::{
+    collections::BTreeMap,
+    fs,
+    io::{ErrorKind, Write},
+    path::{Path, PathBuf},
+    process::{Command, Stdio},
+};
 
 /// A file below crates/.
 fn text(name: &str) -> String {
@@ -116,4 +128,73 @@ fn sessions_of_the_screen() {
     let due: Vec<String> = cases.map(|(name, words)| name.to_owned() + &session.due(&words.split(' ').collect::<Vec<_>>())).collect();
     assert_eq!(text("test_screen/stdout").lines().collect::<Vec<_>>(), due);
     assert!(due.len() > 100);
+}
+
+/// A file of the repository.
+fn file(name: &str) -> PathBuf {
+    Path::new(env!("CARGO_MANIFEST_DIR")).join("..").join(name)
+}
+
+/// What the program `all_orders` prints for bytes on standard input. It may be done before it took them all.
+fn printed(bytes: &[u8]) -> Vec<u8> {
+    let program = file("target/bin/all_orders");
+    let mut run = Command::new(&program).stdin(Stdio::piped()).stdout(Stdio::piped()).spawn().expect("target/bin/all_orders, which rt check all_orders builds");
+    let given = run.stdin.take().expect("a pipe").write_all(bytes);
+    assert!(given.is_ok() || given.is_err_and(|error| error.kind() == ErrorKind::BrokenPipe));
+    let done = run.wait_with_output().expect("the program's output");
+    assert!(done.status.success());
+    done.stdout
+}
+
+/// The text that is due, and its refusal's number or 0.
+fn text_due(bytes: &[u8]) -> (u16, String) {
+    match all_orders(bytes) {
+        Ok(text) => (0, text),
+        Err(refused) => refused,
+    }
+}
+
+/// A path of 2^k stops with so many faults, now and then with some thousands of bytes after it.
+fn input(random: &mut Random, k: u16, faults: usize) -> Vec<u8> {
+    let mut bytes = World::any(random, k).path;
+    for _ in 0..faults {
+        damage(random, &mut bytes);
+    }
+    if random.below(20) == 0 {
+        bytes.resize(bytes.len() + random.below(100_000) as usize, random.next() as u8);
+    }
+    bytes
+}
+
+/// The program that prints all orders, on good paths and on paths with one fault and two: every refusal of a path is met, 5 in place of 8.
+#[test]
+fn all_orders_printed() {
+    let mut random = seeded("all orders");
+    let mut seen: BTreeMap<u16, usize> = BTreeMap::new();
+    for case in 0..4_000 * rounds() {
+        let k = [0, 1, 2, 3, 3, 4, 5, 10][random.below(8) as usize];
+        let bytes = input(&mut random, k, case % 3);
+        let (number, text) = text_due(&bytes);
+        assert_eq!(String::from_utf8(printed(&bytes)).expect("text"), text, "{bytes:02x?}");
+        *seen.entry(number).or_default() += 1;
+    }
+    println!("all orders: {seen:?}");
+    assert_eq!(seen.into_keys().collect::<Vec<u16>>(), [0, 1, 2, 3, 4, 5, 6, 7]);
+}
+
+/// The program's samples, and the one that `rt check` runs.
+#[test]
+fn all_orders_samples() {
+    let mut samples = vec![(file("crates/all_orders/stdin"), file("crates/all_orders/stdout"))];
+    for entry in fs::read_dir(file("examples/orders")).expect("examples/orders") {
+        let path = entry.expect("a file").path();
+        if path.extension().is_some_and(|end| end == "path") {
+            samples.push((path.clone(), path.with_extension("text")));
+        }
+    }
+    for (path, text) in &samples {
+        let given = fs::read(path).expect("a path");
+        assert_eq!(fs::read_to_string(text).expect("a text"), text_due(&given).1, "{path:?}");
+    }
+    assert!(samples.len() > 40, "{} samples", samples.len());
 }

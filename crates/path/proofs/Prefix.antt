@@ -1,13 +1,16 @@
--- A caller that takes paths of at most N bytes needs to look at N + 1 bytes of its input: what comes after them cannot change the outcome.
+-- A caller that takes paths of at most N bytes needs to look at N + 1 bytes of its input: what comes after them cannot change the outcome. For
+-- callers that take k up to some limit N follows from the limit (`longer-read`).
 use mathlib.Core.Path.{_≡_, refl, sym, ap, _∙_}
 use mathlib.Core.Bool.{Bool, true, false, _&&_}
 use mathlib.Core.List.{List, [], _∷_}
 use Prim.Native.Nat.{ℕ, zero, suc, _+_, _-_, _*_, _^_, _≤_, _<_}
-use native.Mathlib.Nat.{zero-mul, suc-mul, sub-zero, suc-sub-suc}
+use native.Mathlib.Decide.{decLe}
+use native.Mathlib.Nat.{le-trans, mul-le-mul-left, mul-le-mul-right, zero-mul, suc-mul, sub-zero, suc-sub-suc}
 use native.Mathlib.Omega.{arith}
 use lib.Dec.{leb, eqb}
 use lib.ListN.{length, take, drop, length-drop}
-use lib.Seq.{length-take-le, take-take, take-nil}
+use lib.Pow.{pow-mono}
+use lib.Seq.{length-take-le, take-take, take-nil, take-all}
 use borrow.Author.Tests.{le-leb, ne-eqb}
 use Rattle.base.specs.Outcome.{Outcome, gives, refuses, need, andThen, giving}
 use Rattle.records.specs.Field.{numberOf}
@@ -16,7 +19,7 @@ use Rattle.records.proofs.LengthLaws.{path-length, end-length}
 use Rattle.records.proofs.RecordLaws.{by-taken}
 use Rattle.path.specs.Path.{PathHead, pathHead, path, readHead, headOf, headFields, readOn, readPath, readBody, stopThen, endOf, knownVersion, stopSize, pathSize}
 use Rattle.path.proofs.HeadLaws.{Seen, good-head, bad-head, head-seen}
-use Rattle.path.proofs.PlaceLaws.{window, size-length}
+use Rattle.path.proofs.PlaceLaws.{window, size-length, size-range, largestStop}
 use Rattle.path.proofs.WrittenLaws.{size-is}
 
 drop-take : (n m : ℕ) (l : List ℕ) → drop n (take m l) ≡ take (m - n) (drop n l)
@@ -103,7 +106,7 @@ head-prefix bytes highest m h size = by-highest (knownVersion highest)
     by-highest false = refl
 
 -- what follows the first N + 1 bytes does not count for a caller whose paths have at most N
-pub path-prefix : (bytes : List ℕ) (highest : ℕ) (test : ℕ → Outcome Unit) (N : ℕ) → ((version k : ℕ) → test k ≡ gives tt → pathSize version k ≤ N) → 12 ≤ N → N < length bytes → readPath (take (suc N) bytes) highest test ≡ readPath bytes highest test
+path-prefix : (bytes : List ℕ) (highest : ℕ) (test : ℕ → Outcome Unit) (N : ℕ) → ((version k : ℕ) → test k ≡ gives tt → pathSize version k ≤ N) → 12 ≤ N → N < length bytes → readPath (take (suc N) bytes) highest test ≡ readPath bytes highest test
 unfolding readPath readOn
 path-prefix bytes highest test N bound twelve longer =
     ap (λ (h : Outcome PathHead). andThen h (readOn test)) (head-prefix bytes highest (suc N) (omega arith) longer)
@@ -120,3 +123,23 @@ path-prefix bytes highest test N bound twelve longer =
     by-head : (h : Outcome PathHead) → Seen bytes highest h → andThen (shorter-head (suc N - 8) h) (readOn test) ≡ andThen h (readOn test)
     by-head h (good-head version k p q r l) = by-test version k (test k) refl
     by-head h (bad-head n f) = refl
+
+-- ---- a limit of k
+
+-- the bytes of the longest path of k up to `most`, in the newest version
+abbrev pub longestOf : (most : ℕ) → ℕ
+longestOf most = 12 + 2 ^ most * largestStop
+
+longest-bound : (most version k : ℕ) → k ≤ most → pathSize version k ≤ longestOf most
+longest-bound most version k h =
+    let all = le-trans (mul-le-mul-left (2 ^ k) (size-range version .1)) (mul-le-mul-right largestStop (pow-mono {i = k} {j = most} h)) in
+    rw (size-is version k) (omega arith)
+
+-- THE LAW: for a caller that takes k up to `most` the first bytes, one more than the longest path has, settle the reading
+pub longer-read : (most : ℕ) (bytes : List ℕ) (highest : ℕ) (test : ℕ → Outcome Unit) → ((k : ℕ) → test k ≡ gives tt → k ≤ most)
+    → readPath (take (suc (longestOf most)) bytes) highest test ≡ readPath bytes highest test
+longer-read most bytes highest test limit = go (decLe (length bytes) (longestOf most))
+  where
+    go : Dec (length bytes ≤ longestOf most) → readPath (take (suc (longestOf most)) bytes) highest test ≡ readPath bytes highest test
+    go (yes h) = ap (λ (b : List ℕ). readPath b highest test) (take-all (suc (longestOf most)) bytes (omega arith))
+    go (no h) = path-prefix bytes highest test (longestOf most) (λ version k e. longest-bound most version k (limit k e)) (omega arith) (omega arith)

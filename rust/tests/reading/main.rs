@@ -3,6 +3,7 @@
 
 mod examples;
 mod filled;
+mod listing;
 mod orders;
 mod paths;
 mod screen;
