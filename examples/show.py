@@ -29,6 +29,8 @@ REFUSALS = {
     12: "a fork bit outside 1 to n−1 set, or bits not the order's",
     13: "a field not 0 that the version to be written lacks",
     14: "a fork that is not 1 to n−1",
+    15: "a name that is not 1 to 8",
+    16: "nothing kept under a name that is to be come back to",
 }
 
 

@@ -65,7 +65,11 @@ enum cell_refusal {
     /* a field not 0 that the version to be written lacks */
     CELL_LOST_FIELD = 13,
     /* a fork that is not 1 to n-1; no call here takes a fork */
-    CELL_NO_SUCH_FORK = 14
+    CELL_NO_SUCH_FORK = 14,
+    /* a name that is not 1 to 8; no call here takes a name */
+    CELL_NO_SUCH_NAME = 15,
+    /* nothing kept under a name that is to be come back to; no call here keeps orders */
+    CELL_NOTHING_KEPT = 16
 };
 
 /*

@@ -48,6 +48,9 @@ pub struct Lent<R: Room> {
     pub empties: R::Of<u8>,
     pub work: R::Of<u64>,
     pub sums: R::Of<u64>,
+    pub marks: R::Of<u8>,
+    pub stops: R::Of<u16>,
+    pub kept: R::Of<u64>,
     pub out: R::Of<u8>,
 }
 
@@ -70,6 +73,9 @@ impl<R: Room> Lent<R> {
             empties: room.hold(&self.empties),
             work: room.hold(&self.work),
             sums: room.hold(&self.sums),
+            marks: room.hold(&self.marks),
+            stops: room.hold(&self.stops),
+            kept: room.hold(&self.kept),
             out: room.hold(&self.out),
         }
     }
@@ -92,6 +98,9 @@ impl<R: Room> Lent<R> {
             ("empties", *self.empties == *other.empties),
             ("work", *self.work == *other.work),
             ("sums", *self.sums == *other.sums),
+            ("marks", *self.marks == *other.marks),
+            ("stops", *self.stops == *other.stops),
+            ("kept", *self.kept == *other.kept),
             ("out", *self.out == *other.out),
         ];
         same.into_iter().find(|(_, same)| !same).map(|(name, _)| name)
@@ -115,6 +124,9 @@ pub enum Call {
     Exchange { k: u16 },
     GroupSums { highest: u16 },
     ExchangeFork { highest: u16, fork: u16 },
+    Keep { highest: u16, name: u16 },
+    ComeBack { highest: u16, name: u16 },
+    Clear,
     OrderTotal { k: u16 },
     WriteOrderFile { k: u16 },
     ReadOrderFile { k: u16 },
@@ -127,7 +139,12 @@ pub enum Call {
 impl Call {
     /// Whether the call takes the set-up screen's records with a path: an order and its sums.
     pub fn of_the_screen(&self) -> bool {
-        matches!(self, Call::GroupSums { .. } | Call::ExchangeFork { .. })
+        matches!(self, Call::GroupSums { .. }) || self.takes_sums()
+    }
+
+    /// Whether the sums are those of the order, to begin with.
+    pub fn takes_sums(&self) -> bool {
+        matches!(self, Call::ExchangeFork { .. } | Call::Keep { .. } | Call::ComeBack { .. })
     }
 }
 
@@ -189,6 +206,13 @@ macro_rules! made_to {
             Call::ExchangeFork { highest, fork } => {
                 $module::exchange_fork(&$l.bytes, highest, fork, &mut $l.order, &mut $l.sums).map(|()| vec![])
             }
+            Call::Keep { highest, name } => {
+                $module::keep(&$l.bytes, highest, name, &$l.order, &$l.sums, &mut $l.marks, &mut $l.stops, &mut $l.kept).map(|()| vec![])
+            }
+            Call::ComeBack { highest, name } => {
+                $module::come_back(&$l.bytes, highest, name, &mut $l.order, &mut $l.sums, &$l.marks, &$l.stops, &$l.kept).map(|()| vec![])
+            }
+            Call::Clear => $module::clear(&mut $l.marks).map(|()| vec![]),
             Call::OrderTotal { k } => $module::order_total(k, &$l.order, &$l.table).map(one),
             Call::WriteOrderFile { k } => $module::write_order_file(k, &$l.order, &$l.table, &mut $l.out).map(one),
             Call::ReadOrderFile { k } => $module::read_order_file(k, &$l.table, &$l.file, &mut $l.order, &mut $l.bits).map(one),

@@ -101,7 +101,7 @@ fn another_length<T: Copy + Default>(random: &mut Random, needed: usize, numbers
 /// One lent buffer of another length.
 fn spoil_length(random: &mut Random, lent: &mut Lent<Heap>) {
     let n = lent.table.len().isqrt();
-    match random.below(13) {
+    match random.below(16) {
         0 => another_length(random, 3 * n, &mut lent.coords),
         1 => another_length(random, n, &mut lent.speeds),
         2 => another_length(random, n, &mut lent.blends),
@@ -114,6 +114,9 @@ fn spoil_length(random: &mut Random, lent: &mut Lent<Heap>) {
         9 => another_length(random, n * n, &mut lent.work),
         10 => another_length(random, n, &mut lent.dwells),
         11 => another_length(random, n, &mut lent.sums),
+        12 => another_length(random, 8, &mut lent.marks),
+        13 => another_length(random, 8 * n, &mut lent.stops),
+        14 => another_length(random, 8 * n, &mut lent.kept),
         _ => another_length(random, n.div_ceil(8), &mut lent.bits),
     }
 }
@@ -131,6 +134,8 @@ fn spoil_number(random: &mut Random, call: &mut Call) {
             }
         }
         Call::GroupSums { highest } => *highest = other,
+        Call::Clear => (),
+        Call::Keep { highest, name } | Call::ComeBack { highest, name } => *(if random.below(2) == 0 { highest } else { name }) = other,
         Call::ExchangeFork { highest, fork } => *(if random.below(2) == 0 { highest } else { fork }) = other,
         Call::CellRewrite { highest, version } => *(if random.below(2) == 0 { highest } else { version }) = other,
         Call::WritePath { version, k } | Call::TableFrom { version, k } => *(if random.below(2) == 0 { version } else { k }) = other,
@@ -148,12 +153,20 @@ fn put_at<T>(random: &mut Random, numbers: &mut [T], number: T) {
     }
 }
 
-/// Another content of a lent input: a stop's field, a stop of the order, two of them exchanged, a byte that says what is empty, a group's sum, a fork
-/// bit. In an output it changes the pattern alone.
+/// One sum made larger or smaller.
+fn another_sum(random: &mut Random, sums: &mut [u64]) {
+    if !sums.is_empty() {
+        let at = place(random, sums.len());
+        sums[at] = sums[at].wrapping_add(one_of(random, &[1, u64::MAX, 1 << 32, 1 << 63]));
+    }
+}
+
+/// Another content of a lent input: a stop's field, a stop of the order, two of them exchanged, a byte that says what is empty, a group's sum, a mark, a
+/// stop or a sum that is kept, a fork bit. In an output it changes the pattern alone.
 fn spoil_content(random: &mut Random, lent: &mut Lent<Heap>) {
     let (edge, wide) = (one_of(random, &EDGES), one_of(random, &WIDE_EDGES));
     let n = lent.order.len();
-    match random.below(9) {
+    match random.below(12) {
         0 => put_at(random, &mut lent.coords, wide),
         1 => put_at(random, &mut lent.speeds, edge),
         2 => put_at(random, &mut lent.blends, edge),
@@ -161,10 +174,10 @@ fn spoil_content(random: &mut Random, lent: &mut Lent<Heap>) {
         4 => put_at(random, &mut lent.order, edge),
         5 => put_at(random, &mut lent.empties, edge as u8),
         6 if n > 0 => lent.order.swap(place(random, n), place(random, n)),
-        7 if !lent.sums.is_empty() => {
-            let at = place(random, lent.sums.len());
-            lent.sums[at] = lent.sums[at].wrapping_add(one_of(random, &[1, u64::MAX, 1 << 32, 1 << 63]));
-        }
+        7 => another_sum(random, &mut lent.sums),
+        8 => put_at(random, &mut lent.marks, edge as u8),
+        9 => put_at(random, &mut lent.stops, edge),
+        10 => another_sum(random, &mut lent.kept),
         _ => put_at(random, &mut lent.bits, 1 << (edge % 8)),
     }
 }

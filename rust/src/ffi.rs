@@ -56,6 +56,15 @@ mod declared {
         pub fn ffi_exchange_fork(
             bytes: *const u8, bytes_len: usize, highest: u16, fork: u16, order: *mut u16, order_len: usize, sums: *mut u64, sums_len: usize,
         ) -> i64;
+        pub fn ffi_keep(
+            bytes: *const u8, bytes_len: usize, highest: u16, name: u16, order: *const u16, order_len: usize, sums: *const u64, sums_len: usize,
+            marks: *mut u8, marks_len: usize, stops: *mut u16, stops_len: usize, kept: *mut u64, kept_len: usize,
+        ) -> i64;
+        pub fn ffi_come_back(
+            bytes: *const u8, bytes_len: usize, highest: u16, name: u16, order: *mut u16, order_len: usize, sums: *mut u64, sums_len: usize,
+            marks: *const u8, marks_len: usize, stops: *const u16, stops_len: usize, kept: *const u64, kept_len: usize,
+        ) -> i64;
+        pub fn ffi_clear(marks: *mut u8, marks_len: usize) -> i64;
         pub fn ffi_order_total(k: u16, order: *const u16, order_len: usize, table: *const u32, table_len: usize) -> i64;
         pub fn ffi_write_order_file(
             k: u16, order: *const u16, order_len: usize, table: *const u32, table_len: usize, out: *mut u8, out_len: usize,
@@ -224,6 +233,43 @@ pub fn exchange_fork(bytes: &[u8], highest: u16, fork: u16, order: &mut [u16], s
     let (order_len, sums_len) = (order.len(), sums.len());
     let (order, sums) = (order.as_mut_ptr(), sums.as_mut_ptr());
     done(unsafe { declared::ffi_exchange_fork(bytes.as_ptr(), bytes.len(), highest, fork, order, order_len, sums, sums_len) })
+}
+
+/// `named::keep`.
+#[rustfmt::skip]
+#[allow(clippy::too_many_arguments)]
+pub fn keep(
+    bytes: &[u8], highest: u16, name: u16, order: &[u16], sums: &[u64], marks: &mut [u8], stops: &mut [u16], kept: &mut [u64],
+) -> Result<(), u16> {
+    let (marks_len, stops_len, kept_len) = (marks.len(), stops.len(), kept.len());
+    let (marks, stops, kept) = (marks.as_mut_ptr(), stops.as_mut_ptr(), kept.as_mut_ptr());
+    done(unsafe {
+        declared::ffi_keep(
+            bytes.as_ptr(), bytes.len(), highest, name, order.as_ptr(), order.len(), sums.as_ptr(), sums.len(),
+            marks, marks_len, stops, stops_len, kept, kept_len,
+        )
+    })
+}
+
+/// `named::come_back`.
+#[rustfmt::skip]
+#[allow(clippy::too_many_arguments)]
+pub fn come_back(
+    bytes: &[u8], highest: u16, name: u16, order: &mut [u16], sums: &mut [u64], marks: &[u8], stops: &[u16], kept: &[u64],
+) -> Result<(), u16> {
+    let (order_len, sums_len) = (order.len(), sums.len());
+    let (order, sums) = (order.as_mut_ptr(), sums.as_mut_ptr());
+    done(unsafe {
+        declared::ffi_come_back(
+            bytes.as_ptr(), bytes.len(), highest, name, order, order_len, sums, sums_len,
+            marks.as_ptr(), marks.len(), stops.as_ptr(), stops.len(), kept.as_ptr(), kept.len(),
+        )
+    })
+}
+
+/// `named::clear`.
+pub fn clear(marks: &mut [u8]) -> Result<(), u16> {
+    done(unsafe { declared::ffi_clear(marks.as_mut_ptr(), marks.len()) })
 }
 
 /// `orders::order_total`: the total.

@@ -64,6 +64,9 @@ pub fn planner_lent(random: &mut Random, table: &[u32], order: usize, totals: us
         empties: vec![],
         work: vec![],
         sums: vec![],
+        marks: vec![],
+        stops: vec![],
+        kept: vec![],
         out: vec![],
     }
 }
@@ -123,12 +126,13 @@ impl World {
     }
 
     /// Each call once, with numbers that suit this world.
-    pub fn calls(&self, random: &mut Random) -> [Call; 21] {
+    pub fn calls(&self, random: &mut Random) -> [Call; 24] {
         let k = self.k;
         let highest = self.version + random.below(u64::from(7 - self.version)) as u16;
         let version = 4 + random.below(3) as u16;
         let d = random.below((1 << k) + 3) as usize;
         let fork = 1 + random.below(((1 << k) - 1).max(1)) as u16;
+        let name = 1 + random.below(8) as u16;
         [
             Call::ReadPath { highest },
             Call::WritePath { version, k },
@@ -144,6 +148,9 @@ impl World {
             Call::Exchange { k },
             Call::GroupSums { highest },
             Call::ExchangeFork { highest, fork },
+            Call::Keep { highest, name },
+            Call::ComeBack { highest, name },
+            Call::Clear,
             Call::OrderTotal { k },
             Call::WriteOrderFile { k },
             Call::ReadOrderFile { k },
@@ -178,6 +185,9 @@ impl World {
             empties: pattern(random, n, |x| x as u8),
             work: pattern(random, if self.k <= 6 { n * n } else { 0 }, |x| x),
             sums: pattern(random, n, |x| x),
+            marks: pattern(random, 8, |x| x as u8),
+            stops: pattern(random, 8 * n, |x| x as u16),
+            kept: pattern(random, 8 * n, |x| x),
             out: pattern(random, out, |x| x as u8),
         };
         if matches!(call, Call::WritePath { .. } | Call::MakeTable { .. }) {
@@ -192,8 +202,17 @@ impl World {
         if matches!(call, Call::ForkBits { .. } | Call::Exchange { .. } | Call::OrderTotal { .. } | Call::WriteOrderFile { .. }) || call.of_the_screen() {
             lent.order[..n].copy_from_slice(&self.order);
         }
-        if matches!(call, Call::ExchangeFork { .. }) {
+        if call.takes_sums() {
             reading::group_sums(&self.path, 6, &self.order, &mut lent.sums).expect("an allowed order");
+        }
+        if let Call::ComeBack { name, .. } = call {
+            // the name has an order, and so have some others
+            for other in (1..=8u16).filter(|&other| other == name || other % 3 == 0) {
+                let start = usize::from(other - 1) * n;
+                lent.marks[usize::from(other) - 1] = 1;
+                lent.stops[start..start + n].copy_from_slice(&order_of(self.k.into(), &any_set(random, self.k.into())));
+                reading::group_sums(&self.path, 6, &lent.stops[start..start + n], &mut lent.kept[start..]).expect("an allowed order");
+            }
         }
         if matches!(call, Call::OrderOfBits { .. }) {
             lent.bits[..n.div_ceil(8)].copy_from_slice(&self.bits);

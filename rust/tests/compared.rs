@@ -61,6 +61,9 @@ fn every_call_with_faults() {
     assert_eq!(seen.numbers("Exchange"), [0, 5, 8, 9, 10, 12]);
     assert_eq!(seen.numbers("GroupSums"), [0, 1, 2, 3, 4, 5, 6, 7, 8, 9, 10]);
     assert_eq!(seen.numbers("ExchangeFork"), [0, 1, 2, 3, 4, 5, 6, 7, 8, 9, 10, 11, 14]);
+    assert_eq!(seen.numbers("Keep"), [0, 1, 2, 3, 4, 5, 6, 7, 8, 9, 10, 11, 15]);
+    assert_eq!(seen.numbers("ComeBack"), [0, 1, 2, 3, 4, 5, 6, 7, 8, 9, 10, 11, 15, 16]);
+    assert_eq!(seen.numbers("Clear"), [0, 8]);
     assert_eq!(seen.numbers("PlanFilled"), [0, 5, 6, 8]);
     assert_eq!(seen.numbers("ReadOrderFile"), [0, 1, 2, 3, 5, 7, 8, 9, 10, 11, 12]);
 }
@@ -87,6 +90,8 @@ fn path_calls(k: u16, highest: u16) -> Vec<Call> {
         Call::PlanPath { highest },
         Call::GroupSums { highest },
         Call::ExchangeFork { highest, fork: 1 },
+        Call::Keep { highest, name: 8 },
+        Call::ComeBack { highest, name: 8 },
         Call::CellPlan { highest },
         Call::CellCheck { highest },
         Call::CellRewrite { highest, version: 4 },
@@ -202,6 +207,9 @@ fn with_number(call: Call, number: u16) -> Vec<Call> {
         Call::ExchangeFork { highest, fork } => {
             vec![Call::ExchangeFork { highest: number, fork }, Call::ExchangeFork { highest, fork: number }]
         }
+        Call::Keep { highest, name } => vec![Call::Keep { highest: number, name }, Call::Keep { highest, name: number }],
+        Call::ComeBack { highest, name } => vec![Call::ComeBack { highest: number, name }, Call::ComeBack { highest, name: number }],
+        Call::Clear => vec![],
         Call::OrderTotal { .. } => vec![Call::OrderTotal { k: number }],
         Call::WriteOrderFile { .. } => vec![Call::WriteOrderFile { k: number }],
         Call::ReadOrderFile { .. } => vec![Call::ReadOrderFile { k: number }],
@@ -214,7 +222,7 @@ fn with_number(call: Call, number: u16) -> Vec<Call> {
     }
 }
 
-/// Every number of 16 bits as k, as the highest known version, as the version to be written and as a fork.
+/// Every number of 16 bits as k, as the highest known version, as the version to be written, as a fork and as a name.
 #[test]
 fn every_number() {
     let mut random = seeded("numbers");
@@ -260,6 +268,11 @@ fn every_length() {
             shortened(|lent, length| cut(&mut lent.list, length));
             shortened(|lent, length| cut(&mut lent.empties, length));
             shortened(|lent, length| cut(&mut lent.sums, length));
+            shortened(|lent, length| cut(&mut lent.marks, length));
+            if k <= 3 {
+                shortened(|lent, length| cut(&mut lent.stops, length));
+                shortened(|lent, length| cut(&mut lent.kept, length));
+            }
             shortened(|lent, length| cut(&mut lent.out, length));
             if k <= 3 {
                 shortened(|lent, length| cut(&mut lent.table, length));

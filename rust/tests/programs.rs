@@ -4,7 +4,7 @@ use evidence::{
     cases::{rounds, seeded},
     damage::damage,
     random::Random,
-    reading::{all_orders, exchange_fork, group_sums, plan_filled},
+    reading::{all_orders, clear, come_back, exchange_fork, group_sums, keep, plan_filled},
     world::World,
 };
 use std::{
@@ -68,10 +68,10 @@ fn lists_of_filled_stops() {
     assert!(lines > 4 * (2 + 4 + 16 + 256), "{lines} lines");
 }
 
-/// The bytes of a path that crates/test_screen/src/paths.rt names: one, fifty or eight.
-fn screen_path(name: &str) -> Vec<u8> {
-    let code = text("test_screen/src/paths.rt");
-    let body = code.split(&format!("fn {name}(")).nth(1).expect("a path");
+/// The bytes of the path that a function of a file below crates/ puts.
+fn path_of(file: &str, function: &str) -> Vec<u8> {
+    let code = text(file);
+    let body = code.split(&format!("fn {function}(")).nth(1).expect("a function");
     let literal = body.split('"').nth(1).expect("its bytes");
     literal.split("\\x").skip(1).map(|byte| u8::from_str_radix(byte, 16).expect("two hexadecimal digits")).collect()
 }
@@ -90,7 +90,7 @@ impl Session {
         let place = |i: usize| number(i) as usize;
         let made = match words[0] {
             "path" => {
-                let path = screen_path(words[1]);
+                let path = path_of("test_screen/src/paths.rt", words[1]);
                 self.bytes[..path.len()].copy_from_slice(&path);
                 let change = u16::from_str_radix(words[2], 16).expect("a place and a byte");
                 if change != 0 {
@@ -197,4 +197,65 @@ fn all_orders_samples() {
         assert_eq!(fs::read_to_string(text).expect("a text"), text_due(&given).1, "{path:?}");
     }
     assert!(samples.len() > 40, "{} samples", samples.len());
+}
+
+/// What the session of crates/test_named holds: the bytes of a path, the screen's order and sums, and what is kept.
+struct Week {
+    bytes: Vec<u8>,
+    order: [u16; 5],
+    sums: [u64; 5],
+    marks: [u8; 9],
+    stops: [u16; 33],
+    kept: [u64; 33],
+}
+
+impl Week {
+    /// What a case does, and the number of its call. `words` are what crates/test_named/src says of each.
+    fn run(&mut self, words: &[&str]) -> Option<Result<(), u16>> {
+        let number = |i: usize| words[i].parse::<u64>().expect("a number");
+        let place = |i: usize| number(i) as usize;
+        let Week { bytes, order, sums, marks, stops, kept } = self;
+        match words[0] {
+            "path" => *self = Week { bytes: path_of("test_named/src/setting.rt", "begin"), order: [77; 5], sums: [77; 5], marks: [77; 9], stops: [77; 33], kept: [77; 33] },
+            "order" => order[place(1)] = number(2) as u16,
+            "value" => sums[place(1)] = number(2),
+            "used" => marks[place(1)] = number(2) as u8,
+            "stop" => stops[place(1)] = number(2) as u16,
+            "total" => kept[place(1)] = number(2),
+            "make" => return Some(group_sums(&bytes[..place(1)], number(2) as u16, order, sums)),
+            "exchange" => return Some(exchange_fork(&bytes[..place(2)], number(3) as u16, number(1) as u16, order, sums)),
+            "clear" => return Some(clear(&mut marks[..place(1)])),
+            word => {
+                let (bytes, highest, name) = (&bytes[..place(2)], number(3) as u16, number(1) as u16);
+                let (order, sums) = (&mut order[..place(4)], &mut sums[..place(5)]);
+                let (marks, stops, kept) = (&mut marks[..place(6)], &mut stops[..place(7)], &mut kept[..place(8)]);
+                return Some(match word {
+                    "keep" => keep(bytes, highest, name, order, sums, marks, stops, kept),
+                    "back" => come_back(bytes, highest, name, order, sums, marks, stops, kept),
+                    _ => panic!("{word}"),
+                });
+            }
+        }
+        None
+    }
+
+    /// The line that a case writes.
+    fn due(&mut self, name: &str, words: &[&str]) -> String {
+        let number = self.run(words).map_or(String::new(), |made| format!(": {}", made.map_or_else(|number| number, |()| 0)));
+        let (order, sums) = (spaced(&self.order, u16::to_string), spaced(&self.sums, u64::to_string));
+        let (stops, kept) = (spaced(&self.stops, u16::to_string), spaced(&self.kept, u64::to_string));
+        let marks = spaced(&self.marks, |mark| format!("{mark:02x}"));
+        format!("{name}{number}, order{order}, sums{sums}, marks{marks}, stops{stops}, kept{kept}")
+    }
+}
+
+/// Monday to Thursday, case by case.
+#[test]
+fn a_week_at_the_screen() {
+    let mut week = Week { bytes: vec![], order: [0; 5], sums: [0; 5], marks: [0; 9], stops: [0; 33], kept: [0; 33] };
+    let cases = text("test_named/stdin");
+    let cases = cases.lines().filter_map(|line| line.split_once(": "));
+    let due: Vec<String> = cases.map(|(name, words)| week.due(name, &words.split(' ').collect::<Vec<_>>())).collect();
+    assert_eq!(text("test_named/stdout").lines().collect::<Vec<_>>(), due);
+    assert!(due.len() > 80);
 }

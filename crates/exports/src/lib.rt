@@ -33,6 +33,7 @@ ghost use Rattle.planner.specs.Plan.{PlansOrder, said as orderPlanned};
 ghost use Rattle.path_plan.specs.PathPlan.{PlansPath, said as pathPlanned};
 ghost use Rattle.filled.specs.Filled.{PlansList, said as listPlanned};
 ghost use Rattle.screen.specs.Screen.{MakesSums, ExchangesFork, said as recordsMade};
+ghost use Rattle.named.specs.Calls.{KeepsOrder, ComesBack, ClearsMarks};
 ghost use Rattle.orders.specs.ForkBits.{MakesBits, said as bitsMade};
 ghost use Rattle.orders.specs.OrderOfBits.{MakesOrder, said as orderMade};
 ghost use Rattle.orders.specs.OrderTotal.{orderTotal};
@@ -284,6 +285,60 @@ pub extern "C" fn ffi_exchange_fork(
     ensures { λ r. ⌜ Exported (ExchangesFork bytes highest fork order sums) (λ a. signed nothing (recordsMade a)) r ⌝ }
 {
     let answer = screen::exchange_fork(bytes, highest, fork, order, sums);
+    match answer {
+        RecordsMade::Made => 0,
+        RecordsMade::Refused(number) => refusal(number),
+    }
+}
+
+// `named::keep`: 0.
+#[no_mangle]
+pub extern "C" fn ffi_keep(
+    bytes: &[u8],
+    highest: u16,
+    name: u16,
+    order: &[u16],
+    sums: &[u64],
+    marks: &mut [u8],
+    stops: &mut [u16],
+    kept: &mut [u64],
+) -> i64
+    ensures { λ r. ⌜ Exported (KeepsOrder bytes highest name order sums marks stops kept) (λ a. signed nothing (recordsMade a)) r ⌝ }
+{
+    let answer = named::keep(bytes, highest, name, order, sums, marks, stops, kept);
+    match answer {
+        RecordsMade::Made => 0,
+        RecordsMade::Refused(number) => refusal(number),
+    }
+}
+
+// `named::come_back`: 0.
+#[no_mangle]
+pub extern "C" fn ffi_come_back(
+    bytes: &[u8],
+    highest: u16,
+    name: u16,
+    order: &mut [u16],
+    sums: &mut [u64],
+    marks: &[u8],
+    stops: &[u16],
+    kept: &[u64],
+) -> i64
+    ensures { λ r. ⌜ Exported (ComesBack bytes highest name order sums marks stops kept) (λ a. signed nothing (recordsMade a)) r ⌝ }
+{
+    let answer = named::come_back(bytes, highest, name, order, sums, marks, stops, kept);
+    match answer {
+        RecordsMade::Made => 0,
+        RecordsMade::Refused(number) => refusal(number),
+    }
+}
+
+// `named::clear`: 0.
+#[no_mangle]
+pub extern "C" fn ffi_clear(marks: &mut [u8]) -> i64
+    ensures { λ r. ⌜ Exported (ClearsMarks marks) (λ a. signed nothing (recordsMade a)) r ⌝ }
+{
+    let answer = named::clear(marks);
     match answer {
         RecordsMade::Made => 0,
         RecordsMade::Refused(number) => refusal(number),

@@ -10,7 +10,7 @@ use lib.ListN.{length, getD, take, drop, take-append-drop}
 use lib.Pow.{pow-pos}
 use lib.Seq.{getD-take, length-take-le, drop-at}
 use Rattle.base.specs.Refusal.{wrongTotal, noSuchFork}
-use Rattle.base.specs.Outcome.{gives, andThen, number, over}
+use Rattle.base.specs.Outcome.{Outcome, gives, andThen, number, over}
 use Rattle.base.specs.Size.{maxK}
 use Rattle.base.proofs.Outcome.{passed, number-first, number-giving, over-at, over-front, over-long}
 use Rattle.stop.specs.declared.Stop.{Stop}
@@ -42,7 +42,7 @@ use Rattle.screen.proofs.Records.{fork-in, in-fork}
 use Rattle.screen.proofs.Screen.{room-good, room-long, room-sound}
 
 -- an answer that says 'made'
-only-made : (r : RecordsMade) → said r ≡ gives tt → r ≡ Made
+pub only-made : (r : RecordsMade) → said r ≡ gives tt → r ≡ Made
 unfolding said
 only-made Made e = refl
 only-made (Refused n) e = let z : _≡_ {A = ℕ} 0 1 = cc in absurd (omega arith)
@@ -56,21 +56,32 @@ over-back n a b x e l f =
 module _ (bytes : List ℕ) (highest version k : ℕ) (ss : List Stop) (means : readPath bytes highest anySize ≡ gives (path version k ss)) where
   -- ---- what an answer tells, and when a call is accepted
 
-  -- a call whose path is not refused reads that path, and its buffers are long enough
+  -- a call whose path is not refused reads that path, whatever version its caller knows, and what it tests in the head passes
+  pub path-of : (h : ℕ) (test : ℕ → Outcome Unit) → ((j : ℕ) → number (test j) ≡ 0 → test j ≡ gives tt) → number (readPath bytes h test) ≡ 0
+      → (readPath bytes h test ≡ gives (path version k ss)) × (test k ≡ gives tt)
+  path-of h test sound z =
+      let x : Head = pathGiven (readPath bytes h test) in
+      let p = path-good bytes h test sound x refl z in
+      let same = read-once bytes h highest test anySize (x .version) version (x .k) k _ ss (p .reads) means in
+      let j : x .k ≡ k = ap (λ (q : Path). q .k) same in
+      (p .reads ∙ ap gives same, rw j at (p .takes))
+
+  pub means-of : (h : ℕ) (test : ℕ → Outcome Unit) → ((j : ℕ) → number (test j) ≡ 0 → test j ≡ gives tt) → number (readPath bytes h test) ≡ 0
+      → readPath bytes h anySize ≡ gives (path version k ss)
+  means-of h test sound z = read-same bytes h test anySize version k ss (path-of h test sound z .0) refl
+
+  -- for an order and sums the buffers are long enough
   path-is : (order sums : ℕ) → number (readPath bytes highest (screenRoom order sums)) ≡ 0
       → (readPath bytes highest (screenRoom order sums) ≡ gives (path version k ss)) × (2 ^ k ≤ order) × (2 ^ k ≤ sums)
   path-is order sums z =
-      let h : Head = pathGiven (readPath bytes highest (screenRoom order sums)) in
-      let p = path-good bytes highest (screenRoom order sums) (room-sound order sums) h refl z in
-      let same = read-once bytes highest highest (screenRoom order sums) anySize (h .version) version (h .k) k _ ss (p .reads) means in
-      let j : h .k ≡ k = ap (λ (x : Path). x .k) same in
-      let l = room-long order sums k (rw j at (ap number (p .takes))) in
-      (p .reads ∙ ap gives same, l .0, l .1)
+      let w = path-of highest (screenRoom order sums) (room-sound order sums) z in
+      let l = room-long order sums k (ap number (w .1)) in
+      (w .0, l .0, l .1)
 
   path-when : (order sums : ℕ) → 2 ^ k ≤ order → 2 ^ k ≤ sums → readPath bytes highest (screenRoom order sums) ≡ gives (path version k ss)
   path-when order sums a b = read-same bytes highest anySize (screenRoom order sums) version k ss means (room-good order sums k a b)
 
-  few : k ≤ maxK
+  pub few : k ≤ maxK
   few = accepted-of bytes highest anySize version k ss means .small
 
   -- the first call was accepted exactly for an order that passes and long enough sums, and left the order's sums
@@ -212,13 +223,17 @@ module _ (bytes : List ℕ) (highest version k : ℕ) (ss : List Stop) (means : 
     pub exchanged-forks : forksOf k (orderIn k order′) ≡ bitXor (forksOf k (orderIn k order)) (2 ^ fork)
     exchanged-forks = ap (forksOf k) exchanged-order ∙ forksOf-exchange k (orderIn k order) (e .judged .allowed) (2 ^ fork) (fork-forks k fork (e .above) (e .below))
 
-    order-passes : JudgedOrder k order′
+    pub order-passes : JudgedOrder k order′
     order-passes = rw (e .leftOrder) (holds-order k (exchangeFork k (orderIn k order) fork) order few (exchange-allowed k (orderIn k order) (2 ^ fork)))
 
-    new-sums : take (2 ^ k) sums′ ≡ sumsOf (entryOf ss) k (orderIn k order′)
+    pub new-sums : take (2 ^ k) sums′ ≡ sumsOf (entryOf ss) k (orderIn k order′)
     unfolding o′
     new-sums =
         rw (exchanged-order, e .leftSums) (over-front (2 ^ k) (sumsOf (entryOf ss) k o′) sums (length-sumsOf (entryOf ss) k o′))
+
+    pub sums-long : 2 ^ k ≤ length sums′
+    unfolding o′
+    sums-long = rw (e .leftSums) (over-long (2 ^ k) (sumsOf (entryOf ss) k o′) sums (length-sumsOf (entryOf ss) k o′))
 
     -- 'the sums equal those made afresh': the first call with the new order is accepted, and leaves them
     pub exchanged-afresh : (room made : List ℕ) (r : RecordsMade) → 2 ^ k ≤ length room → SumsAreMade bytes highest order′ room made r
@@ -249,8 +264,7 @@ module _ (bytes : List ℕ) (highest version k : ℕ) (ss : List Stop) (means : 
         → (r ≡ Made) × (order″ ≡ order) × (sums″ ≡ sums)
     exchanged-back order″ sums″ r p =
         let o : List ℕ = orderIn k order in
-        let long : 2 ^ k ≤ length sums′ = rw (e .leftSums) (over-long (2 ^ k) (sumsOf (entryOf ss) k (exchangeFork k o fork)) sums (length-sumsOf (entryOf ss) k (exchangeFork k o fork))) in
-        let w = exchanged-when fork order′ sums′ order″ sums″ r order-passes long new-sums (e .above) (e .below) p in
+        let w = exchanged-when fork order′ sums′ order″ sums″ r order-passes sums-long new-sums (e .above) (e .below) p in
         let back : exchangeFork k (orderIn k order′) fork ≡ o = ap (λ (x : List ℕ). exchangeFork k x fork) exchanged-order ∙ exchange-back k o (e .judged .allowed) (2 ^ fork) in (
           w .0,
           w .1 .leftOrder ∙ ap (λ (x : List ℕ). over x order′) back ∙ over-back (2 ^ k) order order′ (exchangeFork k o fork) (length-exchange k o (2 ^ fork)) (e .judged .long) (e .leftOrder),

@@ -13,11 +13,12 @@ use Rattle.base.specs.Size.{maxK, stopCount}
 use Rattle.base.proofs.Bools.{both}
 use Rattle.base.proofs.Outcome.{passed, refused, number-first}
 use Rattle.base.proofs.Size.{stopCount-pow}
-use Rattle.orders.specs.Allowed.{isAllowed}
+use Rattle.orders.specs.Allowed.{isAllowed, judgeOrder}
 use Rattle.orders.specs.Lent.{orderIn, lentOrder, JudgedOrder}
 use Rattle.orders.specs.Same.{alike}
+use Rattle.orders.proofs.Allowed.{judge-good, judged-good}
 use Rattle.orders.proofs.Lent.{lent-contents, lent-judged, lent-gives, lent-same}
-use Rattle.orders.proofs.Same.{alike-same}
+use Rattle.orders.proofs.Same.{alike-same, same-alike}
 use Rattle.groups.specs.Exchange.{exchangeFork}
 use Rattle.group_sums.specs.Travel.{sumsOf}
 use Rattle.group_sums.proofs.Travel.{sums-same}
@@ -63,6 +64,10 @@ module _ (t : ℕ → ℕ → ℕ) (k : ℕ) (order sums : List ℕ) where
     pub records-good : alike (take (2 ^ k) sums) (sumsOf t k (orderIn k order)) ≡ true → lentRecords t k order sums ≡ gives (recordsOf t k (orderIn k order))
     unfolding withSums
     records-good e = records-sums ∙ rw e
+
+  -- records that are known to be good
+  pub records-are : JudgedOrder k order → 2 ^ k ≤ length sums → take (2 ^ k) sums ≡ sumsOf t k (orderIn k order) → GoodRecords t k order sums
+  records-are j long e = record { judged = j; long = long; same = e; accepted = records-good j long (same-alike _ _ e) }
 
   pub records-judged : number (lentRecords t k order sums) ≡ 0 → GoodRecords t k order sums
   unfolding lentRecords withSums
@@ -126,3 +131,16 @@ pub sums-times : (t u : ℕ → ℕ → ℕ) (k : ℕ) (sums : List ℕ) → ((i
     → (o : List ℕ) → isAllowed k o ≡ true → withSums t k sums o ≡ withSums u k sums o
 unfolding withSums
 sums-times t u k sums same o allowed = rw (sums-same t u k o allowed same)
+
+pub records-times : (t u : ℕ → ℕ → ℕ) (k : ℕ) (order sums : List ℕ) → ((i j : ℕ) → i < 2 ^ k → j < 2 ^ k → t i j ≡ u i j)
+    → judgeRecords t k order sums ≡ judgeRecords u k order sums
+unfolding judgeRecords
+records-times t u k order sums same = by (judgeOrder k (orderIn k order)) refl
+  where
+    by : (o : Outcome (List ℕ)) → judgeOrder k (orderIn k order) ≡ o → andThen o (withSums t k sums) ≡ andThen o (withSums u k sums)
+    by (refuses n) e = refl
+    by (gives o) e =
+        let g = judged-good k (orderIn k order) (ap number e) in
+        let is : gives o ≡ gives (orderIn k order) = sym e ∙ judge-good k (orderIn k order) (g .0) (g .1) in
+        let one : orderIn k order ≡ o = cc in
+        sums-times t u k sums same o (rw one at (g .1))

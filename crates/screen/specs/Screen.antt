@@ -24,6 +24,10 @@ screenRoom order sums k =
     (need (leb (2 ^ k) sums) wrongSize
     (gives tt))
 
+-- the same by the least number of places of all that is lent, as code has it
+unfoldable pub placesRoom : (places k : ℕ) → Outcome Unit
+placesRoom places k = need (leb (2 ^ k) places) wrongSize (gives tt)
+
 -- the sums of an order by the times of a path's stops: the path with the lengths in its head, then 9, 10
 unfoldable pub groupSums : (bytes : List ℕ) (highest : ℕ) (order : List ℕ) (room : ℕ) → Outcome (List ℕ)
 groupSums bytes highest order room =

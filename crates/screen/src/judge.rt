@@ -1,4 +1,4 @@
-// What comes before the calls write: the path with the lengths of what is lent, and for an exchange the records and the fork.
+// What comes before the calls write: the path with the places of what is lent, and for an exchange the records and the fork.
 use crate::judge_records;
 use base::NO_SUCH_FORK;
 use base::WRONG_SIZE;
@@ -7,13 +7,14 @@ use path::Head;
 use path::judge_body;
 use path::judge_head;
 ghost use mathlib.Core.Path.{_≡_};
+ghost use Prim.Native.Nat.{min};
 ghost use Rattle.base.specs.Outcome.{refuses, number, andThen};
 ghost use Rattle.base.specs.Buffer.{atEntry};
 ghost use Rattle.path.specs.Path.{readPath};
 ghost use Rattle.path.specs.Reading.{headGiven, pathGiven};
 ghost use Rattle.times.specs.InPath.{timeIn};
 ghost use Rattle.screen.specs.Records.{lentRecords, forkExchanged};
-ghost use Rattle.screen.specs.Screen.{screenRoom};
+ghost use Rattle.screen.specs.Screen.{placesRoom};
 
 // The answer of a refused path.
 fn no_path(refused: u16) -> Head
@@ -26,9 +27,19 @@ fn no_path(refused: u16) -> Head
     }
 }
 
-// The version and k of a path whose order and sums have these lengths, or the first refusal.
-pub fn judge_path(bytes: &[u8], highest: u16, order: usize, sums: usize) -> Head
-    ensures { λ r. ⌜ r ≡ pathGiven (readPath (atEntry bytes) highest (screenRoom order sums)) ⌝ }
+// The smaller of two counts.
+pub fn fewer(a: usize, b: usize) -> usize
+    ensures { λ r. ⌜ r ≡ min a b ⌝ }
+{
+    if a < b {
+        return a;
+    }
+    b
+}
+
+// The version and k of a path, where each buffer that is lent with it has at least so many places, or the first refusal: fewer than n are 8.
+pub fn judge_path(bytes: &[u8], highest: u16, places: usize) -> Head
+    ensures { λ r. ⌜ r ≡ pathGiven (readPath (atEntry bytes) highest (placesRoom places)) ⌝ }
 {
     let head = judge_head(bytes, highest);
     let version = head.version;
@@ -36,10 +47,7 @@ pub fn judge_path(bytes: &[u8], highest: u16, order: usize, sums: usize) -> Head
     if head.refused != 0 {
         return head;
     }
-    if order < stop_count(k) {
-        return no_path(WRONG_SIZE);
-    }
-    if sums < stop_count(k) {
+    if places < stop_count(k) {
         return no_path(WRONG_SIZE);
     }
     let refused = judge_body(bytes, version, k);

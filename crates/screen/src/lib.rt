@@ -11,8 +11,9 @@ mod update;
 
 use base::WRONG_TOTAL;
 use base::stop_count;
+pub use judge::fewer;
 use judge::judge_exchange;
-use judge::judge_path;
+pub use judge::judge_path;
 use orders::judge_lent;
 ghost use mathlib.Core.Path.{_≡_};
 ghost use Rattle.base.specs.Outcome.{number};
@@ -47,7 +48,7 @@ pub fn judge_records(bytes: &[u8], version: u16, k: u16, order: &[u16], sums: &[
 pub fn group_sums(bytes: &[u8], highest: u16, order: &[u16], sums: &mut [u64]) -> RecordsMade
     ensures { λ r. ⌜ MakesSums bytes highest order sums r ⌝ }
 {
-    let head = judge_path(bytes, highest, order.len(), sums.len());
+    let head = judge_path(bytes, highest, fewer(order.len(), sums.len()));
     let refused = head.refused;
     let version = head.version;
     let k = head.k;
@@ -73,7 +74,7 @@ pub fn exchange_fork(
 ) -> RecordsMade
     ensures { λ r. ⌜ ExchangesFork bytes highest fork order sums r ⌝ }
 {
-    let head = judge_path(bytes, highest, order.len(), sums.len());
+    let head = judge_path(bytes, highest, fewer(order.len(), sums.len()));
     let refused = head.refused;
     let version = head.version;
     let k = head.k;

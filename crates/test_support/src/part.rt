@@ -64,6 +64,16 @@ pub fn times_mut(all: &mut [u32], count: usize) -> &mut [u32]
     &mut all[..count]
 }
 
+// The first `count` totals, or all where there are fewer.
+pub fn totals(all: &[u64], count: usize) -> &[u64]
+    ensures { λ r. ⌜ now r ≡ take count (now (all .entry)) ⌝ }
+{
+    if all.len() < count {
+        return all;
+    }
+    &all[..count]
+}
+
 // The first `count` totals that may be written, or all where there are fewer.
 pub fn totals_mut(all: &mut [u64], count: usize) -> &mut [u64]
     ensures { λ r. ⌜ now r ≡ take count (now (all .entry)) ⌝ }

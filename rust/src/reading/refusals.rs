@@ -28,6 +28,10 @@ pub const WRONG_FORKS: u16 = 12;
 pub const LOST_FIELD: u16 = 13;
 /// M-109: 'A fork out of range is 14'; M-101: 'the fork is not 1 to n−1'
 pub const NO_SUCH_FORK: u16 = 14;
+/// M-110: 'a name not 1 to 8'
+pub const NO_SUCH_NAME: u16 = 15;
+/// M-110: 'nothing kept under it when coming back'
+pub const NOTHING_KEPT: u16 = 16;
 
 /// The refusal of this number where the condition does not hold.
 pub(super) fn require(condition: bool, number: u16) -> Result<(), u16> {

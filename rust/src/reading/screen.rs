@@ -30,7 +30,7 @@ fn path_of(bytes: &[u8], highest: u16, order: &[u16], sums: &[u64]) -> Result<(P
 }
 
 /// 'The screen's records are lent and validated on entry: 9, 10, then 11 if a sum, place 0 included, is not the order's.'
-fn check_records(path: &Path, order: &[u16], sums: &[u64]) -> Result<(), u16> {
+pub(super) fn check_records(path: &Path, order: &[u16], sums: &[u64]) -> Result<(), u16> {
     check_order(order)?;
     require(sums == sums_of(path.k.into(), &path.stops, order), WRONG_TOTAL)
 }

@@ -4,6 +4,7 @@
 mod examples;
 mod filled;
 mod listing;
+mod named;
 mod orders;
 mod paths;
 mod screen;

@@ -1,20 +1,23 @@
 -- `screen::exchange_fork` meets its contract: the path, the records and the fork, then the exchange.
 use mathlib.Core.Path.{sym, _∙_}
 use Prim.Native.Nat.{_^_, _≤_, _<_}
+use lib.ListN.{length}
 use borrow.Author.Needs.{needs}
 use Rattle.base.proofs.Outcome.{refused}
 use Rattle.times.specs.InPath.{timeIn}
 use Rattle.screen.proofs.Records.{GoodRecords, exchange-judged}
-use Rattle.screen.proofs.Screen.{GoodPath, good-path, fork-bad-path, by-bytes, fork-refused, fork-made}
+use Rattle.screen.specs.Screen.{screenRoom}
+use Rattle.screen.proofs.Screen.{room-places, GoodPath, good-path, bad-path, fork-bad-path, by-bytes, fork-refused, fork-made}
 use Rattle.screen.proofs.exchange_fork.Statement.{statement}
 use Rattle.screen.proofs.exchange_fork.Tie as tie
 
 abbrev start : tie.Else1 → tie.Start
-start c = c .before .before .before .before .before
+start c = c .before .before .before .before .before .before
 
 -- the path that was judged
-good : (c : tie.Else1) → let a = start c .args in let h = c .before .judge-path .result in GoodPath (a .bytes .now) (a .highest) (a .order .now) (a .sums .now) (h .version) (h .k)
-good c = good-path _ _ _ _ _ (c .before .judge-path .ensures) (c .if1 .left)
+good : (c : tie.Else1) → let a = start c .args in let h = c .before .judge-path .result in
+    GoodPath (a .bytes .now) (a .highest) (screenRoom (length (a .order .now)) (length (a .sums .now))) (h .version) (h .k)
+good c = good-path _ _ _ _ (room-places _ _) _ (c .before .before .fewer .ensures) _ (c .before .judge-path .ensures) (c .if1 .left)
 
 -- and the records with the fork
 judged : (c : tie.Else2) → let path = c .before .before .before .before in let a = start path .args in let h = path .before .judge-path .result in
@@ -43,7 +46,8 @@ exchange-fork-spec =
     tie.close
     (tie.spec
     (λ c κs. search needs)
-    (λ c. fork-refused _ _ _ _ _ _ (fork-bad-path _ _ _ _ _ (c .before .judge-path .ensures) _ (c .if1 .taken)))
+    (λ c κs. search needs)
+    (λ c. fork-refused _ _ _ _ _ _ (fork-bad-path _ _ _ _ _ _ (bad-path _ _ _ _ (room-places _ _) _ (c .before .before .fewer .ensures) _ (c .before .judge-path .ensures) (c .if1 .taken))))
     (λ c κs. search needs)
     (λ c. search needs)
     (λ c. search needs)
