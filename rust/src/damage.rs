@@ -101,7 +101,7 @@ fn another_length<T: Copy + Default>(random: &mut Random, needed: usize, numbers
 /// One lent buffer of another length.
 fn spoil_length(random: &mut Random, lent: &mut Lent<Heap>) {
     let n = lent.table.len().isqrt();
-    match random.below(16) {
+    match random.below(17) {
         0 => another_length(random, 3 * n, &mut lent.coords),
         1 => another_length(random, n, &mut lent.speeds),
         2 => another_length(random, n, &mut lent.blends),
@@ -117,6 +117,7 @@ fn spoil_length(random: &mut Random, lent: &mut Lent<Heap>) {
         12 => another_length(random, 8, &mut lent.marks),
         13 => another_length(random, 8 * n, &mut lent.stops),
         14 => another_length(random, 8 * n, &mut lent.kept),
+        15 => another_length(random, n * n, &mut lent.places),
         _ => another_length(random, n.div_ceil(8), &mut lent.bits),
     }
 }
@@ -139,7 +140,7 @@ fn spoil_number(random: &mut Random, call: &mut Call) {
         Call::ExchangeFork { highest, fork } => *(if random.below(2) == 0 { highest } else { fork }) = other,
         Call::CellRewrite { highest, version } => *(if random.below(2) == 0 { highest } else { version }) = other,
         Call::WritePath { version, k } | Call::TableFrom { version, k } => *(if random.below(2) == 0 { version } else { k }) = other,
-        Call::Plan { k } | Call::PlanWeighings { k } | Call::Foretell { k } => *k = other,
+        Call::Plan { k } | Call::PlanWeighings { k } | Call::PlanPlaces { k } | Call::Foretell { k } => *k = other,
         Call::MakeTable { k } | Call::PlanFilled { k } | Call::ForkBits { k } | Call::OrderOfBits { k } => *k = other,
         Call::Exchange { k } | Call::OrderTotal { k } | Call::WriteOrderFile { k } | Call::ReadOrderFile { k } => *k = other,
     }

@@ -4,7 +4,7 @@
 //! There are two loop orders, and each is written once: `Columns` is the paper's (for each stop its candidates), `Rows` goes along the
 //! table's rows (for each candidate the stops that it may come before). `Checked` and `Unchecked` reach the numbers with and without the
 //! bounds checks. `Slices` goes along the rows too, in the way that spares most checks: by slices and iterators. `Pairs` is the paper's
-//! order with two neighbouring stops at a time.
+//! order with two neighbouring stops at a time. Where places cost extra (M-107), each adds a stop's entry once its way is found.
 
 use std::ops::Range;
 
@@ -48,10 +48,56 @@ pub struct Row<'a> {
     pub pivots: &'a mut [u16],
 }
 
-/// What makes the row of a place from the row of the place before it, for the stops of a block. The candidates of a stop are the aligned
-/// block of 2^t stops beside its own. Up to the middle place (`early`) a stop is its own pivot.
+/// What a stop costs in a place, beside the moves.
+pub trait Extra: Copy {
+    fn of<A: Access>(self, n: usize, stop: usize, place: usize) -> u64;
+    /// Adds it to the totals of a block.
+    fn add(self, n: usize, totals: &mut [u64], place: usize, block: Range<usize>);
+}
+
+/// Nothing: the plain total.
+#[derive(Clone, Copy)]
+pub struct Nothing;
+
+impl Extra for Nothing {
+    #[inline(always)]
+    fn of<A: Access>(self, _: usize, _: usize, _: usize) -> u64 {
+        0
+    }
+    #[inline(always)]
+    fn add(self, _: usize, _: &mut [u64], _: usize, _: Range<usize>) {}
+}
+
+/// The entry of a table of n rows, row stop and column place.
+#[derive(Clone, Copy)]
+pub struct Places<'a>(&'a [u32]);
+
+impl Extra for Places<'_> {
+    #[inline(always)]
+    fn of<A: Access>(self, n: usize, stop: usize, place: usize) -> u64 {
+        A::get(self.0, stop * n + place).into()
+    }
+    #[inline(always)]
+    fn add(self, n: usize, totals: &mut [u64], place: usize, block: Range<usize>) {
+        let rows = self.0.chunks_exact(n).skip(block.start);
+        for (total, row) in totals[block].iter_mut().zip(rows) {
+            *total += u64::from(row[place]);
+        }
+    }
+}
+
+/// The costs of n stops: a table of moves, and what places cost.
+#[derive(Clone, Copy)]
+pub struct Costs<'a, E: Extra> {
+    n: usize,
+    table: &'a [u32],
+    extra: E,
+}
+
+/// What makes the row of place p from the row of the place before it, for the stops of a block. The candidates of a stop are the aligned
+/// block of 2^t stops beside its own, where t is the number of trailing zero bits of p. Up to the middle place (`early`) a stop is its own pivot.
 pub trait Step {
-    fn step(table: &[u32], n: usize, old: &Row, new: &mut Row, t: u32, early: bool, block: Range<usize>);
+    fn step<E: Extra>(costs: Costs<E>, old: &Row, new: &mut Row, p: usize, early: bool, block: Range<usize>);
 }
 
 /// For each stop its candidates.
@@ -59,7 +105,8 @@ pub struct Columns<A: Access>(A);
 
 impl<A: Access> Step for Columns<A> {
     #[inline(always)]
-    fn step(table: &[u32], n: usize, old: &Row, new: &mut Row, t: u32, early: bool, block: Range<usize>) {
+    fn step<E: Extra>(costs: Costs<E>, old: &Row, new: &mut Row, p: usize, early: bool, block: Range<usize>) {
+        let (Costs { n, table, extra }, t) = (costs, p.trailing_zeros());
         for to in block {
             let first = ((to >> t) ^ 1) << t;
             let mut least = u64::MAX;
@@ -71,7 +118,7 @@ impl<A: Access> Step for Columns<A> {
                     held = from;
                 }
             }
-            A::put(new.totals, to, least);
+            A::put(new.totals, to, least + extra.of::<A>(n, to, p));
             A::put(new.pivots, to, if early { to as u16 } else { A::get(old.pivots, held) });
         }
     }
@@ -82,11 +129,12 @@ pub struct Rows<A: Access>(A);
 
 impl<A: Access> Step for Rows<A> {
     #[inline(always)]
-    fn step(table: &[u32], n: usize, old: &Row, new: &mut Row, t: u32, early: bool, block: Range<usize>) {
+    fn step<E: Extra>(costs: Costs<E>, old: &Row, new: &mut Row, p: usize, early: bool, block: Range<usize>) {
+        let (Costs { n, table, extra }, t) = (costs, p.trailing_zeros());
         for to in block.clone() {
             A::put(new.totals, to, u64::MAX);
         }
-        for from in block {
+        for from in block.clone() {
             let first = ((from >> t) ^ 1) << t;
             let before = A::get(old.totals, from);
             let pivot = A::get(old.pivots, from);
@@ -98,6 +146,7 @@ impl<A: Access> Step for Rows<A> {
                 }
             }
         }
+        extra.add(n, new.totals, p, block);
     }
 }
 
@@ -106,14 +155,15 @@ pub struct Slices;
 
 impl Step for Slices {
     #[inline(always)]
-    fn step(table: &[u32], n: usize, old: &Row, new: &mut Row, t: u32, early: bool, block: Range<usize>) {
+    fn step<E: Extra>(costs: Costs<E>, old: &Row, new: &mut Row, p: usize, early: bool, block: Range<usize>) {
+        let (Costs { n, table, extra }, t) = (costs, p.trailing_zeros());
         new.totals[block.clone()].fill(u64::MAX);
         if early {
             for to in block.clone() {
                 new.pivots[to] = to as u16;
             }
         }
-        for from in block {
+        for from in block.clone() {
             let first = ((from >> t) ^ 1) << t;
             let beside = first..first + (1 << t);
             let before = old.totals[from];
@@ -135,6 +185,7 @@ impl Step for Slices {
                 }
             }
         }
+        extra.add(n, new.totals, p, block);
     }
 }
 
@@ -153,9 +204,10 @@ pub struct Pairs<A: Access>(A);
 
 impl<A: Access> Step for Pairs<A> {
     #[inline(always)]
-    fn step(table: &[u32], n: usize, old: &Row, new: &mut Row, t: u32, early: bool, block: Range<usize>) {
+    fn step<E: Extra>(costs: Costs<E>, old: &Row, new: &mut Row, p: usize, early: bool, block: Range<usize>) {
+        let (Costs { n, table, extra }, t) = (costs, p.trailing_zeros());
         if t == 0 {
-            return Columns::<A>::step(table, n, old, new, t, early, block);
+            return Columns::<A>::step(costs, old, new, p, early, block);
         }
         for to in block.step_by(2) {
             let first = ((to >> t) ^ 1) << t;
@@ -167,7 +219,7 @@ impl<A: Access> Step for Pairs<A> {
                 other = keep(other, before + u64::from(A::get(table, from * n + to + 1)), from);
             }
             for (stop, held) in [(to, one), (to + 1, other)] {
-                A::put(new.totals, stop, held.0);
+                A::put(new.totals, stop, held.0 + extra.of::<A>(n, stop, p));
                 A::put(new.pivots, stop, if early { stop as u16 } else { A::get(old.pivots, held.1) });
             }
         }
@@ -182,7 +234,8 @@ struct Work<'a> {
 
 /// All rows of 2^m places from `left` on, for the aligned block of stops from `base` on; the last is the odd row.
 #[inline(always)]
-fn sweep<S: Step>(table: &[u32], n: usize, order: &[u16], work: &mut Work, left: usize, base: usize, m: u32) {
+fn sweep<S: Step, E: Extra>(costs: Costs<E>, order: &[u16], work: &mut Work, left: usize, base: usize, m: u32) {
+    let Costs { n, table, extra } = costs;
     let size = 1 << m;
     let middle = left + size / 2 - 1;
     let (even_totals, odd_totals) = work.totals.split_at_mut(n);
@@ -190,17 +243,18 @@ fn sweep<S: Step>(table: &[u32], n: usize, order: &[u16], work: &mut Work, left:
     let mut old = Row { totals: even_totals, pivots: even_pivots };
     let mut new = Row { totals: odd_totals, pivots: odd_pivots };
     for stop in base..base + size {
-        old.totals[stop] = if left == 0 { 0 } else { u64::from(table[order[left - 1] as usize * n + stop]) };
+        let time = if left == 0 { 0 } else { u64::from(table[order[left - 1] as usize * n + stop]) };
+        old.totals[stop] = time + extra.of::<Checked>(n, stop, left);
         old.pivots[stop] = stop as u16;
     }
     for p in left + 1..left + size {
-        S::step(table, n, &old, &mut new, p.trailing_zeros(), p <= middle, base..base + size);
+        S::step(costs, &old, &mut new, p, p <= middle, base..base + size);
         std::mem::swap(&mut old, &mut new);
     }
 }
 
 /// Fixes every place of a block of 2^m places, whose last place is fixed.
-fn solve<S: Step>(table: &[u32], n: usize, order: &mut [u16], work: &mut Work, left: usize, m: u32) {
+fn solve<S: Step, E: Extra>(costs: Costs<E>, order: &mut [u16], work: &mut Work, left: usize, m: u32) {
     if m == 0 {
         return;
     }
@@ -210,27 +264,23 @@ fn solve<S: Step>(table: &[u32], n: usize, order: &mut [u16], work: &mut Work, l
     }
     let size = 1 << m;
     let last = order[left + size - 1] as usize;
-    sweep::<S>(table, n, order, work, left, last / size * size, m);
-    order[left + size / 2 - 1] = work.pivots[n + last];
-    solve::<S>(table, n, order, work, left, m - 1);
-    solve::<S>(table, n, order, work, left + size / 2, m - 1);
+    sweep::<S, E>(costs, order, work, left, last / size * size, m);
+    order[left + size / 2 - 1] = work.pivots[costs.n + last];
+    solve::<S, E>(costs, order, work, left, m - 1);
+    solve::<S, E>(costs, order, work, left + size / 2, m - 1);
 }
 
-/// The wanted order of 2^k stops in the first places of `order`, and its total, or the refusal's number. The work space is 0 afterwards.
-pub fn plan<S: Step>(k: u16, table: &[u32], order: &mut [u16], totals: &mut [u64], pivots: &mut [u16]) -> Result<u64, u16> {
-    if let Some(number) = crate::reading::refusal(k, table.len(), order.len(), totals.len(), pivots.len()) {
-        return Err(number);
-    }
-    let k = u32::from(k);
-    let n = 1usize << k;
-    let order = &mut order[..n];
-    let mut work = Work { totals: &mut totals[..2 * n], pivots: &mut pivots[..2 * n] };
-    let mut total = 0;
+/// The wanted order of 2^k stops, and its total. The work space is 0 afterwards.
+#[inline(always)]
+fn planned<S: Step, E: Extra>(k: u32, costs: Costs<E>, order: &mut [u16], mut work: Work) -> u64 {
+    let n = costs.n;
+    let total;
     if k == 0 {
         order[0] = 0;
+        total = costs.extra.of::<Checked>(n, 0, 0);
     } else {
         order.fill(0);
-        sweep::<S>(table, n, order, &mut work, 0, 0, k);
+        sweep::<S, E>(costs, order, &mut work, 0, 0, k);
         let mut last = 0;
         for stop in 1..n {
             if work.totals[n + stop] < work.totals[n + last] {
@@ -240,10 +290,36 @@ pub fn plan<S: Step>(k: u16, table: &[u32], order: &mut [u16], totals: &mut [u64
         total = work.totals[n + last];
         order[n - 1] = last as u16;
         order[n / 2 - 1] = work.pivots[n + last];
-        solve::<S>(table, n, order, &mut work, 0, k - 1);
-        solve::<S>(table, n, order, &mut work, n / 2, k - 1);
+        solve::<S, E>(costs, order, &mut work, 0, k - 1);
+        solve::<S, E>(costs, order, &mut work, n / 2, k - 1);
     }
     work.totals.fill(0);
     work.pivots.fill(0);
-    Ok(total)
+    total
+}
+
+/// The wanted order of 2^k stops in the first places of `order`, and its total, or the refusal's number. The work space is 0 afterwards.
+pub fn plan<S: Step>(k: u16, table: &[u32], order: &mut [u16], totals: &mut [u64], pivots: &mut [u16]) -> Result<u64, u16> {
+    if let Some(number) = crate::reading::refusal(k, table.len(), order.len(), totals.len(), pivots.len()) {
+        return Err(number);
+    }
+    let n = 1usize << k;
+    let work = Work { totals: &mut totals[..2 * n], pivots: &mut pivots[..2 * n] };
+    Ok(planned::<S, _>(k.into(), Costs { n, table, extra: Nothing }, &mut order[..n], work))
+}
+
+/// The same where places cost extra.
+#[rustfmt::skip]
+pub fn plan_places<S: Step>(
+    k: u16, table: &[u32], places: &[u32], order: &mut [u16], totals: &mut [u64], pivots: &mut [u16],
+) -> Result<u64, u16> {
+    if let Some(number) = crate::reading::refusal(k, table.len(), order.len(), totals.len(), pivots.len()) {
+        return Err(number);
+    }
+    let n = 1usize << k;
+    if places.len() != n * n {
+        return Err(8);
+    }
+    let work = Work { totals: &mut totals[..2 * n], pivots: &mut pivots[..2 * n] };
+    Ok(planned::<S, _>(k.into(), Costs { n, table, extra: Places(places) }, &mut order[..n], work))
 }

@@ -56,6 +56,7 @@ pub fn planner_lent(random: &mut Random, table: &[u32], order: usize, totals: us
         blends: vec![],
         dwells: vec![],
         table: table.to_vec(),
+        places: vec![],
         order: (0..order).map(|_| random.next() as u16).collect(),
         totals: (0..totals).map(|_| random.next()).collect(),
         pivots: (0..pivots).map(|_| random.next() as u16).collect(),
@@ -126,7 +127,7 @@ impl World {
     }
 
     /// Each call once, with numbers that suit this world.
-    pub fn calls(&self, random: &mut Random) -> [Call; 24] {
+    pub fn calls(&self, random: &mut Random) -> [Call; 25] {
         let k = self.k;
         let highest = self.version + random.below(u64::from(7 - self.version)) as u16;
         let version = 4 + random.below(3) as u16;
@@ -140,6 +141,7 @@ impl World {
             Call::TableFrom { version: self.version, k },
             Call::Plan { k },
             Call::PlanWeighings { k },
+            Call::PlanPlaces { k },
             Call::Foretell { k },
             Call::PlanPath { highest },
             Call::PlanFilled { k },
@@ -177,6 +179,7 @@ impl World {
             blends: pattern(random, n, |x| x as u16),
             dwells: pattern(random, n, |x| x as u16),
             table: (0..n * n).map(|_| random.next() as u32).collect(),
+            places: (0..n * n).map(|_| random.next() as u32).collect(),
             order: pattern(random, n, |x| x as u16),
             totals: pattern(random, 2 * n, |x| x),
             pivots: pattern(random, 2 * n, |x| x as u16),
@@ -196,8 +199,11 @@ impl World {
             lent.blends[..n].copy_from_slice(&self.blends);
             lent.dwells[..n].copy_from_slice(&self.dwells);
         }
-        if matches!(call, Call::Plan { .. } | Call::PlanWeighings { .. } | Call::PlanFilled { .. } | Call::OrderTotal { .. } | Call::WriteOrderFile { .. } | Call::ReadOrderFile { .. }) {
+        if matches!(call, Call::Plan { .. } | Call::PlanWeighings { .. } | Call::PlanPlaces { .. } | Call::PlanFilled { .. } | Call::OrderTotal { .. } | Call::WriteOrderFile { .. } | Call::ReadOrderFile { .. }) {
             lent.table.copy_from_slice(&self.table);
+        }
+        if matches!(call, Call::PlanPlaces { .. }) {
+            lent.places = any_table(random, self.k.into());
         }
         if matches!(call, Call::ForkBits { .. } | Call::Exchange { .. } | Call::OrderTotal { .. } | Call::WriteOrderFile { .. }) || call.of_the_screen() {
             lent.order[..n].copy_from_slice(&self.order);

@@ -53,6 +53,7 @@ fn every_call_with_faults() {
     assert_eq!(seen.numbers("TableFrom"), path);
     assert_eq!(seen.numbers("Plan"), [0, 5, 8]);
     assert_eq!(seen.numbers("PlanWeighings"), [0, 5, 8]);
+    assert_eq!(seen.numbers("PlanPlaces"), [0, 5, 8]);
     assert_eq!(seen.numbers("Foretell"), [0, 5]);
     for call in ["ForkBits", "OrderTotal", "WriteOrderFile"] {
         assert_eq!(seen.numbers(call), [0, 5, 8, 9, 10]);
@@ -197,6 +198,7 @@ fn with_number(call: Call, number: u16) -> Vec<Call> {
         Call::TableFrom { version, k } => vec![Call::TableFrom { version: number, k }, Call::TableFrom { version, k: number }],
         Call::Plan { .. } => vec![Call::Plan { k: number }],
         Call::PlanWeighings { .. } => vec![Call::PlanWeighings { k: number }],
+        Call::PlanPlaces { .. } => vec![Call::PlanPlaces { k: number }],
         Call::Foretell { .. } => vec![Call::Foretell { k: number }],
         Call::PlanPath { .. } => vec![Call::PlanPath { highest: number }],
         Call::PlanFilled { .. } => vec![Call::PlanFilled { k: number }],
@@ -276,6 +278,7 @@ fn every_length() {
             shortened(|lent, length| cut(&mut lent.out, length));
             if k <= 3 {
                 shortened(|lent, length| cut(&mut lent.table, length));
+                shortened(|lent, length| cut(&mut lent.places, length));
                 shortened(|lent, length| cut(&mut lent.work, length));
             }
         }

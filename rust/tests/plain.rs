@@ -4,7 +4,7 @@
 use evidence::{
     calls::{by_reading, Answer, Call, Heap, Lent},
     cases::{rounds, seeded},
-    plain::Slices,
+    plain::{self, Checked, Columns, Pairs, Rows, Slices},
     plain_filled::{self, One, Two},
     plain_jobs,
     plain_path::{self, Chunks, Indices},
@@ -25,6 +25,11 @@ fn signed(result: i64) -> Answer {
 /// A version and k.
 fn head((version, k): (u16, u16)) -> Vec<i64> {
     vec![version.into(), k.into()]
+}
+
+/// A total.
+fn one(total: u64) -> Vec<i64> {
+    vec![total as i64]
 }
 
 /// A version, k and a total.
@@ -54,6 +59,12 @@ fn by_plain(call: Call) -> Vec<Plain> {
         ],
         Call::PlanPath { highest } => vec![
             Box::new(move |l| plain_jobs::plan_path::<Slices>(&l.bytes, highest, &mut l.table, &mut l.order, &mut l.totals, &mut l.pivots).map(planned)),
+        ],
+        Call::PlanPlaces { k } => vec![
+            Box::new(move |l| plain::plan_places::<Columns<Checked>>(k, &l.table, &l.places, &mut l.order, &mut l.totals, &mut l.pivots).map(one)),
+            Box::new(move |l| plain::plan_places::<Rows<Checked>>(k, &l.table, &l.places, &mut l.order, &mut l.totals, &mut l.pivots).map(one)),
+            Box::new(move |l| plain::plan_places::<Slices>(k, &l.table, &l.places, &mut l.order, &mut l.totals, &mut l.pivots).map(one)),
+            Box::new(move |l| plain::plan_places::<Pairs<Checked>>(k, &l.table, &l.places, &mut l.order, &mut l.totals, &mut l.pivots).map(one)),
         ],
         Call::PlanFilled { k } => vec![
             Box::new(move |l| plain_filled::plan_filled::<One>(k, &l.table, &l.empties, &mut l.list, &mut l.bits, &mut l.work).map(listed)),

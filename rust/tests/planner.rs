@@ -5,7 +5,7 @@ use evidence::{
     cases::{any_set, any_table, planted, rounds, seeded, table},
     cubic,
     plain::{self, Checked, Columns, Pairs, Rows, Slices, Unchecked},
-    reading::{allowed, by_enumeration, by_whole_tables, every_set, order_of, preferred, total},
+    reading::{allowed, by_enumeration, by_whole_tables, every_set, move_cost, order_of, placed_cost, placed_total, preferred, total},
     world::{planner_lent, planner_suiting},
 };
 
@@ -50,6 +50,30 @@ fn k_4_to_10_against_whole_tables() {
     }
 }
 
+/// 'Optimality, with its rule for equals, is wanted for this sum', by enumeration and by whole tables; 'A second table all zero gives the plain
+/// result', and so does one that is the same everywhere, at n times its entry more.
+#[test]
+fn places_against_both_methods() {
+    let mut random = seeded("places");
+    let counts = [(0, 2000), (1, 5000), (2, 20_000), (3, 20_000), (4, 6000), (5, 1500), (6, 300), (7, 80), (8, 30), (9, 8), (10, 3)];
+    for (k, count) in counts {
+        for i in 0..count * rounds() {
+            let table = any_table(&mut random, k.into());
+            let mut lent = planner_suiting(&mut random, k, &table);
+            lent.places = any_table(&mut random, k.into());
+            assert_eq!(compare(Call::PlanPlaces { k }, &lent), 0);
+            if i % 4 == 0 {
+                let entry = [0, 1, u32::MAX][i / 4 % 3];
+                lent.places.fill(entry);
+                let mut plain = lent.held(Heap);
+                let sum = by_library(Call::Plan { k }, &mut plain).expect("the lengths suffice")[0];
+                assert_eq!(by_library(Call::PlanPlaces { k }, &mut lent), Ok(vec![sum + (i64::from(entry) << k)]));
+                assert_eq!(lent.difference(&plain), None, "k = {k}");
+            }
+        }
+    }
+}
+
 #[test]
 fn totals_against_the_cubic_method() {
     let mut random = seeded("cubic method");
@@ -73,8 +97,11 @@ fn the_reading_agrees_with_itself() {
         let orders = every_order(k);
         assert!(orders.iter().all(|order| allowed(order)));
         for _ in 0..300 {
-            let table = any_table(&mut random, k);
-            assert_eq!(by_enumeration(&table, &orders), by_whole_tables(k, &table));
+            let (n, table, places) = (1 << k, any_table(&mut random, k), any_table(&mut random, k));
+            let by_moves = by_enumeration(&orders, |order| total(&table, order));
+            assert_eq!(by_moves, by_whole_tables(k, |_, before, stop| move_cost(n, &table, before, stop)));
+            let by_both = by_enumeration(&orders, |order| placed_total(&table, &places, order));
+            assert_eq!(by_both, by_whole_tables(k, |place, before, stop| placed_cost(n, &table, &places, place, before, stop)));
         }
     }
     for k in 4..=10 {

@@ -4,7 +4,7 @@ use evidence::{
     cases::{rounds, seeded},
     damage::damage,
     random::Random,
-    reading::{all_orders, clear, come_back, exchange_fork, group_sums, keep, plan_filled},
+    reading::{all_orders, clear, come_back, exchange_fork, group_sums, keep, plan_filled, plan_places},
     world::World,
 };
 use std::{
@@ -66,6 +66,55 @@ fn lists_of_filled_stops() {
         lines += 1;
     }
     assert!(lines > 4 * (2 + 4 + 16 + 256), "{lines} lines");
+}
+
+/// The entry of row a and column b by a rule, as crates/test_planner/src/table.rt has it.
+fn planner_entry(rule: u64, a: u64, b: u64) -> u32 {
+    let x = [0, 30, 10, 20];
+    let entry = match rule {
+        0 => 1,
+        1 => (37 * a + 101 * b) % 97 + (3 * a + 7 * b) % 11 * 9,
+        2 => a % 7 * 11 + b % 5 * 13 + (a + b) % 3 * 20 + 4_000_000_000,
+        3 => (2 * a + b / 3 + (5 * a + 3 * b) / 7) % 3,
+        4 => if a < b { 3 } else { 7 },
+        5 => if a < b { 7 } else { 3 },
+        7 => u64::abs_diff(x[a.min(3) as usize], x[b.min(3) as usize]),
+        9 => 0,
+        10 => if (a, b) == (0, 3) { 10 } else { 0 },
+        11 => if (a, b) == (2, 0) { 10 } else { 0 },
+        _ => 5,
+    };
+    entry as u32
+}
+
+/// The rest of a line of crates/test_planner/stdout where places cost extra, by what stands before its colon: k, the rules, the lent lengths.
+fn due_of_places(call: &str) -> String {
+    let numbers: Vec<u64> = call.split([' ', ',']).filter_map(|word| word.parse().ok()).collect();
+    let [k, rule, extra, table, places, order, totals, pivots] = numbers[..] else { panic!("{call}") };
+    let n = if k <= 4 { 1 << k } else { 4 };
+    let [table, places] = [(rule, table), (extra, places)].map(|(rule, size)| (0..size).map(|i| planner_entry(rule, i / n, i % n)).collect::<Vec<_>>());
+    let (mut order, mut totals, mut pivots) = (vec![77u16; order as usize], vec![77u64; totals as usize], vec![77u16; pivots as usize]);
+    let answer = match plan_places(k as u16, &table, &places, &mut order, &mut totals, &mut pivots) {
+        Err(number) => number.to_string(),
+        Ok(total) => format!("0, total {total}"),
+    };
+    let [zeros, others] = [0, 77].map(|value| {
+        let marks = pivots.iter().filter(|&&number| u64::from(number) == value).count();
+        format!("{} {marks}", totals.iter().filter(|&&number| number == value).count())
+    });
+    format!("{answer}, order{}, 0 in {zeros}, 77 in {others}", spaced(&order, u16::to_string))
+}
+
+/// The planner's program, where places cost extra.
+#[test]
+fn places_that_cost_extra() {
+    let text = text("test_planner/stdout");
+    let lines: Vec<&str> = text.lines().filter(|line| line.starts_with("places")).collect();
+    for line in &lines {
+        let (call, written) = line.split_once(": ").expect("a call and its answer");
+        assert_eq!(written, due_of_places(call), "{call}");
+    }
+    assert!(lines.len() > 40, "{} lines", lines.len());
 }
 
 /// The bytes of the path that a function of a file below crates/ puts.

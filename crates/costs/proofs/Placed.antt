@@ -17,7 +17,7 @@ use Rattle.tree.specs.Total.{moves, total}
 use Rattle.tree.specs.Wanted.{backward}
 use Rattle.tree.proofs.Link.{length-orderOf}
 use Rattle.tree.proofs.Theorem7.{forward}
-use Rattle.tree.specs.Wanted.{wanted, every}
+use Rattle.tree.specs.Wanted.{wanted, every, Shortest}
 use Rattle.tree.specs.Draws.{Draws}
 use Rattle.costs.specs.Costs.{placesTo, placedTotal}
 use Rattle.tree.specs.Layers.{layers, anywhere}
@@ -25,6 +25,7 @@ use Rattle.costs.specs.Graphs.{placedGraph}
 use Rattle.tree.proofs.Layers.{layers-draw}
 use Rattle.tree.proofs.Draws.{plans-wanted, plans-one}
 use Rattle.tree.proofs.Open.{every-settled, wanted-one, moves-total}
+use Rattle.tree.proofs.Wanted.{wanted-shortest}
 use Rattle.tree.proofs.Compare.{wanted-shift}
 
 -- the cost of a walk: the moves, and the places with place 0
@@ -55,6 +56,14 @@ module _ (k : ℕ) (t : ℕ → ℕ → ℕ) where
     unfolding layers segment
     placed-plan = sym (plans-one (placedGraph k t x) (2 ^ k - 1))
         ∙ plans-wanted k (placedTotal t x) every (λ e. placedGraph k t x) placed-draws (every-settled k) 0 refl
+
+    -- demand 3 for this total
+    pub placed-shortest : Shortest k (placedTotal t x) every (wanted k (placedTotal t x) every) (placedTotal t x (wanted k (placedTotal t x) every))
+    placed-shortest = wanted-shortest k (placedTotal t x) every (every-settled k) 0 refl
+
+    -- the wanted order has every place
+    pub placed-long : length (wanted k (placedTotal t x) every) ≡ 2 ^ k
+    placed-long = ap length (sym (placed-shortest .given)) ∙ length-orderOf k (placed-shortest .forks)
 
   -- one and the same entry c everywhere: the plain order, at n times c more
   pub placed-same : (c : ℕ) (x : ℕ → ℕ → ℕ) → ((i p : ℕ) → i < 2 ^ k → p < 2 ^ k → x i p ≡ c)

@@ -7,6 +7,8 @@ use lib.IntN.{pos}
 use lib.ListN.{length}
 use Rattle.tree.specs.Total.{total}
 use Rattle.tree.proofs.Small.{total-small}
+use Rattle.costs.specs.Costs.{placedTotal}
+use Rattle.costs.proofs.Bounds.{placed-small}
 use Rattle.signed.specs.Result.{given, atMost}
 use Rattle.signed.proofs.AtMost.{kept-below}
 use Rattle.signed.proofs.Result.{value-given}
@@ -20,6 +22,11 @@ pub total-packed : (t : ℕ → ℕ → ℕ) (o : List ℕ) (version k : ℕ) �
     → packed (total t o) version k ≡ total t o * totalUnit + version * versionUnit + k
 unfolding packed
 total-packed t o version k h b = ap (λ (x : ℕ). x * totalUnit + version * versionUnit + k) (kept-below mostPacked (total t o) (total-small t o h b))
+
+-- so is one with the places
+pub placed-given : (t x : ℕ → ℕ → ℕ) (o : List ℕ) → ((a b : ℕ) → t a b ≤ 4294967295) → ((i j : ℕ) → x i j ≤ 4294967295) → length o ≤ 1024
+    → given (placedTotal t x o) ≡ pos (placedTotal t x o)
+placed-given t x o f g b = value-given (placedTotal t x o) (omega (arith, placed-small t x o f g b))
 
 -- so is the total of a list of up to 64 stops, beside its length
 pub list-packed : (t : ℕ → ℕ → ℕ) (o : List ℕ) → ((a b : ℕ) → t a b ≤ 4294967295) → length o ≤ 64 → listed (total t o) (length o) ≡ total t o * lengthUnit + length o

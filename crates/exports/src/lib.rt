@@ -17,6 +17,7 @@ use path::PathRead;
 use path::PathWritten;
 use path_plan::PathPlanned;
 use planner::Foretold;
+use planner::Ordered;
 use planner::Planned;
 use screen::RecordsMade;
 use signed::refusal;
@@ -30,6 +31,7 @@ ghost use Rattle.path.specs.Written.{WritesPath, said as pathWritten};
 ghost use Rattle.times.specs.Table.{MakesTable, FillsTable, said as tableMade};
 ghost use Rattle.planner.specs.Weighings.{foretold};
 ghost use Rattle.planner.specs.Plan.{PlansOrder, said as orderPlanned};
+ghost use Rattle.planner.specs.Places.{PlansPlaces, orderSaid};
 ghost use Rattle.path_plan.specs.PathPlan.{PlansPath, said as pathPlanned};
 ghost use Rattle.filled.specs.Filled.{PlansList, said as listPlanned};
 ghost use Rattle.screen.specs.Screen.{MakesSums, ExchangesFork, said as recordsMade};
@@ -154,6 +156,25 @@ pub extern "C" fn ffi_plan_weighings(
             weighings,
         } => value(weighings),
         Planned::Refused(number) => refusal(number),
+    }
+}
+
+// `planner::plan_places`: the total with the places.
+#[no_mangle]
+pub extern "C" fn ffi_plan_places(
+    k: u16,
+    table: &[u32],
+    places: &[u32],
+    order: &mut [u16],
+    totals: &mut [u64],
+    pivots: &mut [u16],
+) -> i64
+    ensures { λ r. ⌜ Exported (PlansPlaces k table places order totals pivots) (λ a. signed itself (orderSaid a)) r ⌝ }
+{
+    let answer = planner::plan_places(k, table, places, order, totals, pivots);
+    match answer {
+        Ordered::Done(total) => value(total),
+        Ordered::Refused(number) => refusal(number),
     }
 }
 

@@ -21,6 +21,10 @@ pub mod Split
 pub mod Ends
 -- The call, by a table.
 pub mod Judged
+pub mod Written
+pub mod Places
 pub mod ByTable
+-- What holds of calls where places cost extra.
+pub mod PlacesCalls
 -- What k alone foretells.
 pub mod Sums

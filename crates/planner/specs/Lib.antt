@@ -2,3 +2,4 @@
 pub mod Method
 pub mod Weighings
 pub mod Plan
+pub mod Places

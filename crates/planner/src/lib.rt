@@ -11,10 +11,17 @@ ghost use Prim.Native.Nat.{_≤_};
 ghost use Rattle.base.specs.Outcome.{number};
 ghost use Rattle.planner.specs.Weighings.{foretoldWeighings, foretold, foresaid};
 ghost use Rattle.planner.specs.Plan.{planRoom, PlansOrder};
+ghost use Rattle.planner.specs.Places.{placesRoom, PlansPlaces};
 
 // What planning answers: the total of the order that was written and the number of weighings, or the refusal's number.
 pub enum Planned {
     Done { total: u64, weighings: u64 },
+    Refused(u16),
+}
+
+// What planning by other costs answers: the total of the order that was written, or the refusal's number.
+pub enum Ordered {
+    Done(u64),
     Refused(u16),
 }
 
@@ -78,6 +85,66 @@ pub fn plan(
         total: solved.total,
         weighings: solved.weighings,
     }
+}
+
+// 0, or the number of the refusal where places cost extra: as above, and 8 for a second table not n² long.
+fn judge_places(
+    k: u16,
+    table: usize,
+    places: usize,
+    order: usize,
+    totals: usize,
+    pivots: usize,
+) -> u16
+    ensures { λ r. ⌜ r ≡ number (placesRoom k table places order totals pivots) ⌝ }
+{
+    let refused = judge_lengths(k, table, order, totals, pivots);
+    if refused != 0 {
+        return refused;
+    }
+    let n = base::stop_count(k);
+    if places != n * n {
+        return base::WRONG_SIZE;
+    }
+    0
+}
+
+// M-107: as `plan`, where a stop's entry for its place is added to the total, place 0 included. `places` has row stop and column place and is
+// exactly n² long.
+pub fn plan_places(
+    k: u16,
+    table: &[u32],
+    places: &[u32],
+    order: &mut [u16],
+    totals: &mut [u64],
+    pivots: &mut [u16],
+) -> Ordered
+    ensures { λ r. ⌜ PlansPlaces k table places order totals pivots r ⌝ }
+{
+    let refused = judge_places(
+        k,
+        table.len(),
+        places.len(),
+        order.len(),
+        totals.len(),
+        pivots.len(),
+    );
+    if refused != 0 {
+        return Ordered::Refused(refused);
+    }
+    let n = base::stop_count(k);
+    let none = [0u8; 1];
+    let solved = halve::run(
+        rows::Costs { n },
+        table,
+        places,
+        &none[..0],
+        &mut order[..n],
+        &mut totals[..n + n],
+        &mut pivots[..n + n],
+        k as u32,
+    );
+    Ordered::Done(solved.total)
 }
 
 // How many candidates a plan of 2^k stops weighs.

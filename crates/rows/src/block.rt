@@ -208,7 +208,7 @@ pub fn block(
         return row::pair(costs, table, places, path, totals, pivots, left + 1, base);
     }
     if m == 2 {
-        return row::middle_leaf(costs, table, places, path, totals, pivots, left + 1, base);
+        return row::middle(costs, table, places, path, totals, pivots, left + 1, base);
     }
     large_block(costs, table, places, path, totals, pivots, left, base, m)
 }

@@ -3,8 +3,13 @@
 use crate::Costs;
 ghost use mathlib.Core.Path.{_≡_};
 ghost use Prim.Native.Nat.{_+_, _^_, _≤_, _<_};
-ghost use Rattle.rows.specs.Source.{heldSources, Readable, lentCosts};
+ghost use Rattle.rows.specs.Source.{heldSources, Readable, ReadBy, lentCosts};
 ghost use Rattle.rows.specs.Way.{Priced, CrossedMoves, PairedMoves, FourMoves};
+
+// Ways to read a cost, which the innermost functions are told: by the table of moves alone, or with a table of places.
+pub const BY_TABLE: u8 = 0;
+
+pub const BY_PLACES: u8 = 1;
 
 // What four moves cost.
 pub struct Moves {
@@ -27,6 +32,29 @@ pub fn of_move(
     table: &[u32],
     places: &[u32],
     path: &[u8],
+    by: u8,
+    place: usize,
+    from: usize,
+    to: usize,
+) -> u64
+    requires { ⌜ ReadBy by costs (heldSources table places path) ⌝ }
+    requires { ⌜ (place < costs .n) × (from < costs .n) × (to < costs .n) ⌝ }
+    ensures { λ r. ⌜ Priced (lentCosts costs table places path .weight place) from to r ⌝ }
+{
+    let n = costs.n;
+    let time = wide(table[from * n + to]);
+    if by == BY_TABLE {
+        return time;
+    }
+    time + wide(places[to * n + place])
+}
+
+// The same where the way of reading is not known.
+pub fn any_move(
+    costs: Costs,
+    table: &[u32],
+    places: &[u32],
+    path: &[u8],
     place: usize,
     from: usize,
     to: usize,
@@ -35,8 +63,11 @@ pub fn of_move(
     requires { ⌜ (place < costs .n) × (from < costs .n) × (to < costs .n) ⌝ }
     ensures { λ r. ⌜ Priced (lentCosts costs table places path .weight place) from to r ⌝ }
 {
-    let n = costs.n;
-    wide(table[from * n + to])
+    if places.len() == 0 {
+        of_move(costs, table, places, path, BY_TABLE, place, from, to)
+    } else {
+        of_move(costs, table, places, path, BY_PLACES, place, from, to)
+    }
 }
 
 // What stop i costs in place 0.
@@ -45,7 +76,11 @@ pub fn of_start(costs: Costs, table: &[u32], places: &[u32], path: &[u8], i: usi
     requires { ⌜ i < costs .n ⌝ }
     ensures { λ r. ⌜ (r ≡ lentCosts costs table places path .start i) × (r < 2 ^ 33) ⌝ }
 {
-    0
+    if places.len() == 0 {
+        return 0;
+    }
+    let n = costs.n;
+    wide(places[i * n])
 }
 
 // The moves to the stops i to i + 3, each from the other of its pair.
@@ -54,17 +89,18 @@ pub fn crossed(
     table: &[u32],
     places: &[u32],
     path: &[u8],
+    by: u8,
     place: usize,
     i: usize,
 ) -> Moves
-    requires { ⌜ Readable costs (heldSources table places path) ⌝ }
+    requires { ⌜ ReadBy by costs (heldSources table places path) ⌝ }
     requires { ⌜ (place < costs .n) × (i + 4 ≤ costs .n) ⌝ }
     ensures { λ r. ⌜ CrossedMoves (lentCosts costs table places path .weight place) i r ⌝ }
 {
-    let a = of_move(costs, table, places, path, place, i + 1, i);
-    let b = of_move(costs, table, places, path, place, i, i + 1);
-    let c = of_move(costs, table, places, path, place, i + 3, i + 2);
-    let d = of_move(costs, table, places, path, place, i + 2, i + 3);
+    let a = of_move(costs, table, places, path, by, place, i + 1, i);
+    let b = of_move(costs, table, places, path, by, place, i, i + 1);
+    let c = of_move(costs, table, places, path, by, place, i + 3, i + 2);
+    let d = of_move(costs, table, places, path, by, place, i + 2, i + 3);
     Moves { a, b, c, d }
 }
 
@@ -74,19 +110,20 @@ pub fn paired(
     table: &[u32],
     places: &[u32],
     path: &[u8],
+    by: u8,
     place: usize,
     i: usize,
     low: usize,
     high: usize,
 ) -> Moves
-    requires { ⌜ Readable costs (heldSources table places path) ⌝ }
+    requires { ⌜ ReadBy by costs (heldSources table places path) ⌝ }
     requires { ⌜ (place < costs .n) × (i + 4 ≤ costs .n) × (low < costs .n) × (high < costs .n) ⌝ }
     ensures { λ r. ⌜ PairedMoves (lentCosts costs table places path .weight place) i low high r ⌝ }
 {
-    let a = of_move(costs, table, places, path, place, high, i);
-    let b = of_move(costs, table, places, path, place, high, i + 1);
-    let c = of_move(costs, table, places, path, place, low, i + 2);
-    let d = of_move(costs, table, places, path, place, low, i + 3);
+    let a = of_move(costs, table, places, path, by, place, high, i);
+    let b = of_move(costs, table, places, path, by, place, high, i + 1);
+    let c = of_move(costs, table, places, path, by, place, low, i + 2);
+    let d = of_move(costs, table, places, path, by, place, low, i + 3);
     Moves { a, b, c, d }
 }
 
@@ -96,17 +133,18 @@ pub fn to_four(
     table: &[u32],
     places: &[u32],
     path: &[u8],
+    by: u8,
     place: usize,
     from: usize,
     to: usize,
 ) -> Moves
-    requires { ⌜ Readable costs (heldSources table places path) ⌝ }
+    requires { ⌜ ReadBy by costs (heldSources table places path) ⌝ }
     requires { ⌜ (place < costs .n) × (from < costs .n) × (to + 4 ≤ costs .n) ⌝ }
     ensures { λ r. ⌜ FourMoves (lentCosts costs table places path .weight place) from to r ⌝ }
 {
-    let a = of_move(costs, table, places, path, place, from, to);
-    let b = of_move(costs, table, places, path, place, from, to + 1);
-    let c = of_move(costs, table, places, path, place, from, to + 2);
-    let d = of_move(costs, table, places, path, place, from, to + 3);
+    let a = of_move(costs, table, places, path, by, place, from, to);
+    let b = of_move(costs, table, places, path, by, place, from, to + 1);
+    let c = of_move(costs, table, places, path, by, place, from, to + 2);
+    let d = of_move(costs, table, places, path, by, place, from, to + 3);
     Moves { a, b, c, d }
 }

@@ -17,7 +17,13 @@ pub fn readable(costs: Costs, table: &[u32], places: &[u32], path: &[u8]) -> boo
     if 1024 < n {
         return false;
     }
-    table.len() == n * n
+    if table.len() != n * n {
+        return false;
+    }
+    if places.len() == 0 {
+        return true;
+    }
+    places.len() == n * n
 }
 
 // Whether the 2^m numbers from `start` on are an aligned block of those below n.

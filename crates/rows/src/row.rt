@@ -3,6 +3,8 @@
 
 use crate::Costs;
 use crate::cost;
+use crate::cost::BY_PLACES;
+use crate::cost::BY_TABLE;
 use crate::way;
 use crate::way::Four;
 use crate::way::Way;
@@ -13,7 +15,7 @@ ghost use lib.ListN.{length};
 ghost use Rattle.walks.specs.Best.{Found};
 ghost use Rattle.tree.specs.Neighbour.{trail, mayFollow};
 ghost use Rattle.tree.specs.Block.{besideOf};
-ghost use Rattle.rows.specs.Source.{heldSources, Readable, lentCosts};
+ghost use Rattle.rows.specs.Source.{heldSources, Readable, ReadBy, lentCosts};
 ghost use Rattle.rows.specs.Row.{next, firstRow, Row, SomeRow, Kept, TwoRows};
 ghost use Rattle.rows.specs.Way.{Leads, Loaded, Written, EachFour, InFour, threeOn, MakesRow, MakesRows};
 ghost use Rattle.rows.specs.Pass.{BlockClosed};
@@ -132,7 +134,7 @@ fn other(
 {
     let n = costs.n;
     let before = load(totals, pivots, from, false, from);
-    let cost = cost::of_move(costs, table, places, path, place, from, to);
+    let cost = cost::any_move(costs, table, places, path, place, from, to);
     let way = way::only(costs, place, before, cost, false, to, 0);
     totals[n + to] = way.total;
     pivots[n + to] = way.pivot;
@@ -173,7 +175,7 @@ fn early_leaf(
     place: usize,
     i: usize,
 ) -> u64
-    requires { ⌜ Readable costs (heldSources table places path) ⌝ }
+    requires { ⌜ ReadBy 0 costs (heldSources table places path) ⌝ }
     requires { ⌜ TwoRows (costs .n) (length (now totals)) (length (now pivots)) ⌝ }
     requires { ⌜ (place % 4 ≡ 1) × (place + 3 ≤ costs .n) × (i % 4 ≡ 0) × (i + 4 ≤ costs .n) ⌝ }
     requires { ⌜ SomeRow place 0 i 4 (now totals) (now pivots) ⌝ }
@@ -181,9 +183,9 @@ fn early_leaf(
 {
     let n = costs.n;
     let o = load_four(totals, pivots, true, i);
-    let x = way::crossed(costs, table, places, path, place, o, i, true);
-    let y = way::paired(costs, table, places, path, place + 1, x, i, true);
-    let z = way::crossed(costs, table, places, path, place + 2, y, i, true);
+    let x = way::crossed(costs, table, places, path, BY_TABLE, place, o, i, true);
+    let y = way::paired(costs, table, places, path, BY_TABLE, place + 1, x, i, true);
+    let z = way::crossed(costs, table, places, path, BY_TABLE, place + 2, y, i, true);
     store_four(totals, pivots, n + i, z)
 }
 
@@ -198,7 +200,7 @@ fn late_leaf(
     place: usize,
     i: usize,
 ) -> u64
-    requires { ⌜ Readable costs (heldSources table places path) ⌝ }
+    requires { ⌜ ReadBy 0 costs (heldSources table places path) ⌝ }
     requires { ⌜ TwoRows (costs .n) (length (now totals)) (length (now pivots)) ⌝ }
     requires { ⌜ (place % 4 ≡ 1) × (place + 3 ≤ costs .n) × (i % 4 ≡ 0) × (i + 4 ≤ costs .n) ⌝ }
     requires { ⌜ SomeRow place 0 i 4 (now totals) (now pivots) ⌝ }
@@ -206,14 +208,76 @@ fn late_leaf(
 {
     let n = costs.n;
     let o = load_four(totals, pivots, false, i);
-    let x = way::crossed(costs, table, places, path, place, o, i, false);
-    let y = way::paired(costs, table, places, path, place + 1, x, i, false);
-    let z = way::crossed(costs, table, places, path, place + 2, y, i, false);
+    let x = way::crossed(costs, table, places, path, BY_TABLE, place, o, i, false);
+    let y = way::paired(costs, table, places, path, BY_TABLE, place + 1, x, i, false);
+    let z = way::crossed(costs, table, places, path, BY_TABLE, place + 2, y, i, false);
     store_four(totals, pivots, n + i, z)
 }
 
 // The leaf of a block of four places, whose second place is its middle: the first of the three is early, and the others are late.
-pub fn middle_leaf(
+fn middle_leaf(
+    costs: Costs,
+    table: &[u32],
+    places: &[u32],
+    path: &[u8],
+    totals: &mut [u64],
+    pivots: &mut [u16],
+    place: usize,
+    i: usize,
+) -> u64
+    requires { ⌜ ReadBy 0 costs (heldSources table places path) ⌝ }
+    requires { ⌜ TwoRows (costs .n) (length (now totals)) (length (now pivots)) ⌝ }
+    requires { ⌜ (place % 4 ≡ 1) × (place + 3 ≤ costs .n) × (i % 4 ≡ 0) × (i + 4 ≤ costs .n) ⌝ }
+    requires { ⌜ SomeRow place 0 i 4 (now totals) (now pivots) ⌝ }
+    ensures { λ r. ⌜ MakesRow place (place + 3) (threeOn (lentCosts costs table places path) true false place) 0 i 4 (costs .n) i 4 16 totals pivots r ⌝ }
+{
+    let n = costs.n;
+    let o = load_four(totals, pivots, true, i);
+    let middle = way::crossed(costs, table, places, path, BY_TABLE, place, o, i, true);
+    let y = way::paired(
+        costs,
+        table,
+        places,
+        path,
+        BY_TABLE,
+        place + 1,
+        middle,
+        i,
+        false,
+    );
+    let z = way::crossed(costs, table, places, path, BY_TABLE, place + 2, y, i, false);
+    store_four(totals, pivots, n + i, z)
+}
+
+// The leaf where places cost something too; whether the first of its places is early, and whether the others are, is told.
+fn placed_leaf(
+    costs: Costs,
+    table: &[u32],
+    places: &[u32],
+    path: &[u8],
+    totals: &mut [u64],
+    pivots: &mut [u16],
+    place: usize,
+    i: usize,
+    first: bool,
+    rest: bool,
+) -> u64
+    requires { ⌜ ReadBy 1 costs (heldSources table places path) ⌝ }
+    requires { ⌜ TwoRows (costs .n) (length (now totals)) (length (now pivots)) ⌝ }
+    requires { ⌜ (place % 4 ≡ 1) × (place + 3 ≤ costs .n) × (i % 4 ≡ 0) × (i + 4 ≤ costs .n) ⌝ }
+    requires { ⌜ SomeRow place 0 i 4 (now totals) (now pivots) ⌝ }
+    ensures { λ r. ⌜ MakesRow place (place + 3) (threeOn (lentCosts costs table places path) first rest place) 0 i 4 (costs .n) i 4 16 totals pivots r ⌝ }
+{
+    let n = costs.n;
+    let o = load_four(totals, pivots, first, i);
+    let x = way::crossed(costs, table, places, path, BY_PLACES, place, o, i, first);
+    let y = way::paired(costs, table, places, path, BY_PLACES, place + 1, x, i, rest);
+    let z = way::crossed(costs, table, places, path, BY_PLACES, place + 2, y, i, rest);
+    store_four(totals, pivots, n + i, z)
+}
+
+// The leaf of a block of four places, whatever costs something.
+pub fn middle(
     costs: Costs,
     table: &[u32],
     places: &[u32],
@@ -229,12 +293,21 @@ pub fn middle_leaf(
     requires { ⌜ SomeRow place 0 i 4 (now totals) (now pivots) ⌝ }
     ensures { λ r. ⌜ MakesRow place (place + 3) (threeOn (lentCosts costs table places path) true false place) 0 i 4 (costs .n) i 4 16 totals pivots r ⌝ }
 {
-    let n = costs.n;
-    let o = load_four(totals, pivots, true, i);
-    let middle = way::crossed(costs, table, places, path, place, o, i, true);
-    let y = way::paired(costs, table, places, path, place + 1, middle, i, false);
-    let z = way::crossed(costs, table, places, path, place + 2, y, i, false);
-    store_four(totals, pivots, n + i, z)
+    if places.len() != 0 {
+        return placed_leaf(
+            costs,
+            table,
+            places,
+            path,
+            totals,
+            pivots,
+            place,
+            i,
+            true,
+            false,
+        );
+    }
+    middle_leaf(costs, table, places, path, totals, pivots, place, i)
 }
 
 // The leaf of places that are all early, or none.
@@ -255,6 +328,20 @@ fn leaf(
     requires { ⌜ SomeRow place 0 i 4 (now totals) (now pivots) ⌝ }
     ensures { λ r. ⌜ MakesRow place (place + 3) (threeOn (lentCosts costs table places path) early early place) 0 i 4 (costs .n) i 4 16 totals pivots r ⌝ }
 {
+    if places.len() != 0 {
+        return placed_leaf(
+            costs,
+            table,
+            places,
+            path,
+            totals,
+            pivots,
+            place,
+            i,
+            early,
+            early,
+        );
+    }
     if early {
         early_leaf(costs, table, places, path, totals, pivots, place, i)
     } else {
@@ -297,6 +384,7 @@ fn cheapest_four(
     table: &[u32],
     places: &[u32],
     path: &[u8],
+    by: u8,
     totals: &[u64],
     pivots: &[u16],
     place: usize,
@@ -304,7 +392,7 @@ fn cheapest_four(
     early: bool,
     to: usize,
 ) -> Four
-    requires { ⌜ Readable costs (heldSources table places path) ⌝ }
+    requires { ⌜ ReadBy by costs (heldSources table places path) ⌝ }
     requires { ⌜ TwoRows (costs .n) (length (now totals)) (length (now pivots)) ⌝ }
     requires { ⌜ (place < costs .n) × (t ≡ trail place) × (2 ≤ t) × (t < 10) × (to % 4 ≡ 0) × (to + 4 ≤ costs .n) × (besideOf to t + 2 ^ t ≤ costs .n) ⌝ }
     requires { ⌜ SomeRow place (costs .n) (besideOf to t) (2 ^ t) (now totals) (now pivots) ⌝ }
@@ -322,9 +410,60 @@ fn cheapest_four(
     };
     for j in first..first + two_to(t) {
         let before = load(totals, pivots, n + j, early, j);
-        held = way::weigh_four(costs, table, places, path, place, held, before, j, to);
+        held = way::weigh_four(costs, table, places, path, by, place, held, before, j, to);
     }
     way::settle_four(costs, place, held, early, to)
+}
+
+// The same where the way of reading is not known.
+fn any_four(
+    costs: Costs,
+    table: &[u32],
+    places: &[u32],
+    path: &[u8],
+    totals: &[u64],
+    pivots: &[u16],
+    place: usize,
+    t: u32,
+    early: bool,
+    to: usize,
+) -> Four
+    requires { ⌜ Readable costs (heldSources table places path) ⌝ }
+    requires { ⌜ TwoRows (costs .n) (length (now totals)) (length (now pivots)) ⌝ }
+    requires { ⌜ (place < costs .n) × (t ≡ trail place) × (2 ≤ t) × (t < 10) × (to % 4 ≡ 0) × (to + 4 ≤ costs .n) × (besideOf to t + 2 ^ t ≤ costs .n) ⌝ }
+    requires { ⌜ SomeRow place (costs .n) (besideOf to t) (2 ^ t) (now totals) (now pivots) ⌝ }
+    ensures { λ r. ⌜ InFour (λ i w. w .count ≡ 2 ^ t) to r ⌝ }
+    ensures { λ r. ⌜ ((row : ℕ → Found ℕ) → Row place row (costs .n) (besideOf to t) (2 ^ t) (now (totals .entry)) (now (pivots .entry)) → InFour (Leads (place + 1) (next (lentCosts costs table places path) place early row)) to r) ⌝ }
+{
+    if places.len() == 0 {
+        cheapest_four(
+            costs,
+            table,
+            places,
+            path,
+            BY_TABLE,
+            totals,
+            pivots,
+            place,
+            t,
+            early,
+            to,
+        )
+    } else {
+        cheapest_four(
+            costs,
+            table,
+            places,
+            path,
+            BY_PLACES,
+            totals,
+            pivots,
+            place,
+            t,
+            early,
+            to,
+        )
+    }
 }
 
 // The stops `to` to `to` + 3 in the even row, from their candidates in the odd row.
@@ -346,7 +485,7 @@ fn four_columns(
     requires { ⌜ SomeRow place (costs .n) (besideOf to t) (2 ^ t) (now totals) (now pivots) ⌝ }
     ensures { λ r. ⌜ MakesRow place (place + 1) (next (lentCosts costs table places path) place early) (costs .n) (besideOf to t) (2 ^ t) 0 to 4 (4 * 2 ^ t) totals pivots r ⌝ }
 {
-    let ways = cheapest_four(
+    let ways = any_four(
         costs,
         table,
         places,

@@ -7,7 +7,7 @@ ghost use mathlib.Core.Bool.{true};
 ghost use Prim.Native.Nat.{ℕ, _+_, _%_, _^_, _≤_, _<_};
 ghost use Rattle.walks.specs.Best.{Found};
 ghost use Rattle.tree.specs.Neighbour.{trail, mayFollow};
-ghost use Rattle.rows.specs.Source.{Sources, heldSources, costsOf, Readable, lentCosts};
+ghost use Rattle.rows.specs.Source.{Sources, heldSources, costsOf, Readable, ReadBy, lentCosts};
 ghost use Rattle.rows.specs.Row.{nothing, next, firstRow};
 ghost use Rattle.rows.specs.Way.{Weighing, Weighed, Settled, Leads, Light, OnlyBefore, TwoBefore, EachFour, InFour, ByFour, Grown};
 
@@ -106,7 +106,7 @@ pub fn first(
         }
     } else {
         Way {
-            total: cost::of_move(costs, table, places, path, left, before, i),
+            total: cost::any_move(costs, table, places, path, left, before, i),
             pivot: i as u16,
             count: 0,
         }
@@ -158,18 +158,19 @@ pub fn crossed(
     table: &[u32],
     places: &[u32],
     path: &[u8],
+    by: u8,
     place: usize,
     o: Four,
     i: usize,
     early: bool,
 ) -> Four
-    requires { ⌜ Readable costs (heldSources table places path) ⌝ }
+    requires { ⌜ ReadBy by costs (heldSources table places path) ⌝ }
     requires { ⌜ (place < costs .n) × (trail place ≡ 0) × (i % 4 ≡ 0) × (i + 4 ≤ costs .n) ⌝ }
     requires { ⌜ EachFour Light o ⌝ }
     ensures { λ r. ⌜ ByFour (Grown 1) i o r ⌝ }
     ensures { λ r. ⌜ ((row : ℕ → Found ℕ) → InFour (Leads place row) i o → InFour (Leads (place + 1) (next (lentCosts costs table places path) place early row)) i r) ⌝ }
 {
-    let w = cost::crossed(costs, table, places, path, place, i);
+    let w = cost::crossed(costs, table, places, path, by, place, i);
     let a = only(costs, place, o.b, w.a, early, i, o.a.count);
     let b = only(costs, place, o.a, w.b, early, i + 1, o.b.count);
     let c = only(costs, place, o.d, w.c, early, i + 2, o.c.count);
@@ -183,19 +184,20 @@ pub fn paired(
     table: &[u32],
     places: &[u32],
     path: &[u8],
+    by: u8,
     place: usize,
     o: Four,
     i: usize,
     early: bool,
 ) -> Four
-    requires { ⌜ Readable costs (heldSources table places path) ⌝ }
+    requires { ⌜ ReadBy by costs (heldSources table places path) ⌝ }
     requires { ⌜ (place < costs .n) × (trail place ≡ 1) × (i % 4 ≡ 0) × (i + 4 ≤ costs .n) ⌝ }
     requires { ⌜ EachFour Light o ⌝ }
     ensures { λ r. ⌜ ByFour (Grown 2) i o r ⌝ }
     ensures { λ r. ⌜ ((row : ℕ → Found ℕ) → InFour (Leads place row) i o → InFour (Leads (place + 1) (next (lentCosts costs table places path) place early row)) i r) ⌝ }
 {
-    let v = cost::paired(costs, table, places, path, place, i, i, i + 2);
-    let w = cost::paired(costs, table, places, path, place, i, i + 1, i + 3);
+    let v = cost::paired(costs, table, places, path, by, place, i, i, i + 2);
+    let w = cost::paired(costs, table, places, path, by, place, i, i + 1, i + 3);
     let a = of_two(costs, place, o.c, o.d, v.a, w.a, early, i, o.a.count);
     let b = of_two(costs, place, o.c, o.d, v.b, w.b, early, i + 1, o.b.count);
     let c = of_two(costs, place, o.a, o.b, v.c, w.c, early, i + 2, o.c.count);
@@ -209,18 +211,19 @@ pub fn weigh_four(
     table: &[u32],
     places: &[u32],
     path: &[u8],
+    by: u8,
     place: usize,
     held: Four,
     before: Way,
     from: usize,
     to: usize,
 ) -> Four
-    requires { ⌜ Readable costs (heldSources table places path) ⌝ }
+    requires { ⌜ ReadBy by costs (heldSources table places path) ⌝ }
     requires { ⌜ (place < costs .n) × (from < costs .n) × (to + 4 ≤ costs .n) ⌝ }
     requires { ⌜ Light before × EachFour (λ w. w .count < 2 ^ 32) held ⌝ }
     ensures { λ r. ⌜ ByFour (Weighed (lentCosts costs table places path .weight place) from before) to held r ⌝ }
 {
-    let w = cost::to_four(costs, table, places, path, place, from, to);
+    let w = cost::to_four(costs, table, places, path, by, place, from, to);
     let a = weigh(held.a, before, w.a);
     let b = weigh(held.b, before, w.b);
     let c = weigh(held.c, before, w.c);

@@ -24,8 +24,14 @@ fn by_side(a: u32, b: u32, low: u32, high: u32) -> u32 {
     if a < b { low } else { high }
 }
 
+// 10 in one row and column, and 0 everywhere else.
+fn at(a: u32, b: u32, row: u32, column: u32) -> u32 {
+    if a == row && b == column { 10 } else { 0 }
+}
+
 // The entry from stop a to stop b by a rule: 0 has 1 everywhere; 1, 2 and 3 are not symmetric, 2 has large entries and 3 few values, so many
-// ties; 4, 5 and 6 are document 01's for two stops, 7 its example with the total 50; any other has 5 everywhere.
+// ties; 4, 5 and 6 are document 01's for two stops, 7 its example with the total 50; 9 has 0 everywhere; 10 and 11 have 10 in one place of a table of
+// four rows; any other has 5 everywhere.
 fn entry(rule: u32, a: u32, b: u32) -> u32 {
     let x = a % 1024;
     let y = b % 1024;
@@ -37,6 +43,9 @@ fn entry(rule: u32, a: u32, b: u32) -> u32 {
         4 => by_side(x, y, 3, 7),
         5 => by_side(x, y, 7, 3),
         7 => apart(x_of(x), x_of(y)),
+        9 => 0,
+        10 => at(x, y, 0, 3),
+        11 => at(x, y, 2, 0),
         _ => 5,
     }
 }

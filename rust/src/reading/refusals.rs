@@ -14,7 +14,8 @@ pub const WRONG_K: u16 = 5;
 pub const OUT_OF_RANGE: u16 = 6;
 /// 'bytes after the end record'
 pub const BYTES_AFTER: u16 = 7;
-/// 'a lent buffer too short, a table not n² long, or k above 6 in the controller's calls or the program'
+/// 'a lent buffer too short, a table not n² long, or k above 6 in the controller's calls or the program'; M-107: 'A second table of another length
+/// is 8'
 pub const WRONG_SIZE: u16 = 8;
 /// 'a stop number n or more in an order'
 pub const WRONG_STOP: u16 = 9;

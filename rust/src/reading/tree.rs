@@ -39,6 +39,11 @@ pub fn total(table: &[u32], order: &[u16]) -> u64 {
     order.windows(2).map(|pair| u64::from(table[pair[0] as usize * n + pair[1] as usize])).sum()
 }
 
+/// What a place adds to it: the entry of the move that leads there, and nothing for place 0.
+pub fn move_cost(n: usize, table: &[u32], before: Option<usize>, stop: usize) -> u64 {
+    before.map_or(0, |from| u64::from(table[from * n + stop]))
+}
+
 /// 'The wanted order has the least total .. Of equal totals it is the one with the smaller stop at the first difference, read from the
 /// last place back.'
 pub fn preferred(a: (&[u16], u64), b: (&[u16], u64)) -> bool {
@@ -61,10 +66,10 @@ pub fn every_set(k: u32) -> impl Iterator<Item = Vec<bool>> {
 }
 
 /// The wanted order and its total by plain enumeration of the given orders, which are all allowed ones.
-pub fn by_enumeration(table: &[u32], orders: &[Vec<u16>]) -> (Vec<u16>, u64) {
-    let mut held = (&orders[0], total(table, &orders[0]));
+pub fn by_enumeration(orders: &[Vec<u16>], total: impl Fn(&[u16]) -> u64) -> (Vec<u16>, u64) {
+    let mut held = (&orders[0], total(&orders[0]));
     for order in orders {
-        let sum = total(table, order);
+        let sum = total(order);
         if preferred((order, sum), (held.0, held.1)) {
             held = (order, sum);
         }
@@ -90,17 +95,18 @@ pub fn allowed(order: &[u16]) -> bool {
 }
 
 /// The wanted order and its total by whole tables: for every place and every stop there the preferred of all beginnings that end with it,
-/// kept as a whole order, from every stop that may come before.
-pub fn by_whole_tables(k: u32, table: &[u32]) -> (Vec<u16>, u64) {
+/// kept as a whole order, from every stop that may come before. `cost` is what a place adds to the total: by the place, the stop in the place
+/// before it where there is one, and its own stop.
+pub fn by_whole_tables(k: u32, cost: impl Fn(usize, Option<usize>, usize) -> u64) -> (Vec<u16>, u64) {
     let n = 1usize << k;
-    let mut row: Vec<(Vec<u16>, u64)> = (0..n).map(|stop| (vec![stop as u16], 0)).collect();
+    let mut row: Vec<(Vec<u16>, u64)> = (0..n).map(|stop| (vec![stop as u16], cost(0, None, stop))).collect();
     for p in 1..n {
         let follows: Vec<bool> = (0..n).map(|both| may_follow(p, 0, both)).collect();
         row = (0..n)
             .map(|to| {
                 let mut held: Option<(usize, u64)> = None;
                 for from in (0..n).filter(|from| follows[from ^ to]) {
-                    let sum = row[from].1 + u64::from(table[from * n + to]);
+                    let sum = row[from].1 + cost(p, Some(from), to);
                     if held.map_or(true, |(other, least)| preferred((&row[from].0, sum), (&row[other].0, least))) {
                         held = Some((from, sum));
                     }

@@ -7,6 +7,7 @@ mod listing;
 mod named;
 mod orders;
 mod paths;
+mod places;
 mod screen;
 
 use evidence::{

@@ -4,7 +4,7 @@ use crate::clock::race;
 use evidence::{
     calls::{Call, Heap, Lent},
     ffi,
-    plain::{Checked, Columns, Pairs, Slices, Step},
+    plain::{self, Checked, Columns, Pairs, Slices, Step},
     plain_filled::{self, Fill, One, Two},
     plain_jobs,
     plain_path::{self, Chunks, Indices, Way},
@@ -66,6 +66,17 @@ const CASES: &[Case] = &[
             ("paper's order", plain_plan_path::<Columns<Checked>>),
             ("rows by slices", plain_plan_path::<Slices>),
             ("two stops at a time", plain_plan_path::<Pairs<Checked>>),
+        ],
+    },
+    Case {
+        name: "plan_places",
+        call: |k| Call::PlanPlaces { k },
+        paths: &[(6, 6), (8, 6), (10, 6)],
+        proved: |k, l| ffi::plan_places(k, &l.table, &l.places, &mut l.order, &mut l.totals, &mut l.pivots),
+        plain: &[
+            ("paper's order", plain_places::<Columns<Checked>>),
+            ("rows by slices", plain_places::<Slices>),
+            ("two stops at a time", plain_places::<Pairs<Checked>>),
         ],
     },
     Case {
@@ -162,6 +173,10 @@ fn plan_path(_: u16, l: &mut Lent<Heap>) -> Result<u64, u16> {
 
 fn plain_plan_path<S: Step>(_: u16, l: &mut Lent<Heap>) -> Result<u64, u16> {
     plain_jobs::plan_path::<S>(&l.bytes, 6, &mut l.table, &mut l.order, &mut l.totals, &mut l.pivots).map(|(_, _, total)| total)
+}
+
+fn plain_places<S: Step>(k: u16, l: &mut Lent<Heap>) -> Result<u64, u16> {
+    plain::plan_places::<S>(k, &l.table, &l.places, &mut l.order, &mut l.totals, &mut l.pivots)
 }
 
 /// A list's total, with every stop filled.

@@ -18,8 +18,8 @@ pair-requires c κs =
 returns : tie.Need-returns
 returns c = let made = c .before .before .before .before in pair-block _ _ (made .before .before .before .if1 .taken) (made .pair .ensures)
 
-middle-leaf-requires : tie.Need-middle-leaf-requires
-middle-leaf-requires c κs =
+middle-requires : tie.Need-middle-requires
+middle-requires c κs =
     let q = c .before .before .before .before .before .before .before .before .before .pre in
     let n = q .1 .1 .0 in
     let two = c .before .before .if2 .taken in
@@ -32,7 +32,7 @@ returns-2 c =
     let made = c .before .before .before .before in
     let two = made .before .before .before .if2 .taken in
     let n = made .before .before .before .before .before .before .before .before .before .before .pre .1 .1 .0 in
-    four-block _ _ two (omega (arith, n .2 .inside, ap (λ x. 2 ^ x) two)) (made .middle-leaf .ensures)
+    four-block _ _ two (omega (arith, n .2 .inside, ap (λ x. 2 ^ x) two)) (made .middle .ensures)
 
 large-block-requires : tie.Need-large-block-requires
 large-block-requires c κs =
@@ -50,7 +50,7 @@ block-spec =
     (λ c. search needs)
     returns
     (λ c. let q = c .before .before .before .before .before .before .before .before .before .pre in omega (arith, q .0 .small, q .1 .1 .0 .1 .inside))
-    middle-leaf-requires
+    middle-requires
     (λ c. search needs)
     (λ c. search needs)
     returns-2

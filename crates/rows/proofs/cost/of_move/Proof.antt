@@ -1,19 +1,30 @@
--- `rows::cost::of_move` meets its contract: the entry of two stops is within the table.
+-- `rows::cost::of_move` meets its contract: the entries are within their tables.
 use Prim.Native.Nat.{_+_, _*_, _<_, _≤_}
 use native.Mathlib.Omega.{arith}
 use borrow.Author.Needs.{needs}
-use Rattle.rows.specs.Source.{costsOf}
-use Rattle.rows.proofs.Table.{in-table, square-small}
+use Rattle.rows.proofs.Table.{in-table, square-small, read-alone, read-both, priced-alone, priced-both}
 use Rattle.rows.proofs.cost.of_move.Statement.{statement}
 use Rattle.rows.proofs.cost.of_move.Tie as tie
 
--- the entry's index
-small : (c : tie.Start) → let a = c .args in (a .from * a .costs .n + a .to < a .costs .n * a .costs .n) × (a .costs .n * a .costs .n ≤ 1048576)
-small c = let a = c .args in (in-table (a .costs .n) (a .from) (a .to) (c .pre .1 .1) (c .pre .1 .2), square-small (a .costs .n) (c .pre .0 .small))
+-- the indices of the two entries
+small : (c : tie.Start) → let a = c .args in
+    (a .from * a .costs .n + a .to < a .costs .n * a .costs .n) × (a .to * a .costs .n + a .place < a .costs .n * a .costs .n) × (a .costs .n * a .costs .n ≤ 1048576)
+small c =
+    let a = c .args in
+    let n = c .pre .1 in
+    (in-table (a .costs .n) (a .from) (a .to) (n .1) (n .2), in-table (a .costs .n) (a .to) (a .place) (n .2) (n .0), square-small (a .costs .n) (c .pre .0 .small))
 
 returns : tie.Need-returns
-unfolding costsOf
-returns c = search needs
+returns c =
+    let at = c .before .before .before .before .before .before in
+    let read = c .before .wide .ensures in
+    priced-alone _ _ (at .args .place) (read-alone (at .pre .0) (c .if1 .taken)) (read .0) (read .1)
+
+returns-2 : tie.Need-returns-2
+returns-2 c =
+    let first = c .before .before .before .wide .ensures in
+    let second = c .wide2 .ensures in
+    priced-both _ _ (c .before .before .before .before .before .before .before .before .args .place) (first .0) (first .1) (second .0) (second .1)
 
 pub of-move-spec : {M : Type 1} → statement M
 of-move-spec =
@@ -24,4 +35,11 @@ of-move-spec =
     (λ c. omega (arith, small (c .before .before .before)))
     (λ c. omega (arith, small (c .before .before .before .before), c .before .before .before .before .pre .0 .square))
     (λ c κs. search needs)
-    returns)
+    returns
+    (λ c. omega (arith, small (c .before .before .before .before .before .before)))
+    (λ c. omega (arith, small (c .before .before .before .before .before .before)))
+    (λ c. omega (arith, small (c .before .before .before .before .before .before)))
+    (λ c. let at = c .before .before .before .before .before .before .before in omega (arith, small at, read-both (at .pre .0) (c .before .if1 .left)))
+    (λ c κs. search needs)
+    (λ c. search needs)
+    returns-2)

@@ -1,12 +1,32 @@
--- `rows::cost::of_start` meets its contract: by a table the first stop costs nothing.
+-- `rows::cost::of_start` meets its contract: an entry of place 0, or nothing.
+use Prim.Native.Nat.{_+_, _*_, _<_, _≤_}
+use native.Mathlib.Omega.{arith}
 use borrow.Author.Needs.{needs}
-use Rattle.rows.specs.Source.{costsOf}
+use Rattle.rows.proofs.Table.{in-table, square-small, read-places, start-alone, start-both}
 use Rattle.rows.proofs.cost.of_start.Statement.{statement}
 use Rattle.rows.proofs.cost.of_start.Tie as tie
 
+-- the entry's index
+small : (c : tie.Start) → let a = c .args in (a .i * a .costs .n < a .costs .n * a .costs .n) × (a .costs .n * a .costs .n ≤ 1048576)
+small c =
+    let a = c .args in
+    (omega (arith, in-table (a .costs .n) (a .i) 0 (c .pre .1) (omega (arith, c .pre .1))), square-small (a .costs .n) (c .pre .0 .small))
+
 returns : tie.Need-returns
-unfolding costsOf
-returns c = search needs
+returns c =
+    let at = c .before .before .before .before in
+    (start-alone _ _ (at .args .i) (c .if1 .taken), omega arith)
+
+returns-2 : tie.Need-returns-2
+returns-2 c = let read = c .wide .ensures in (start-both _ _ (c .before .before .before .before .before .before .args .i) (read .0), omega (arith, read .1))
 
 pub of-start-spec : {M : Type 1} → statement M
-of-start-spec = tie.close (tie.spec returns)
+of-start-spec =
+    tie.close
+    (tie.spec
+    returns
+    (λ c. omega (arith, small (c .before .before .before .before)))
+    (λ c. omega (arith, small (c .before .before .before .before)))
+    (λ c. let at = c .before .before .before .before .before in omega (arith, small at, read-places (at .pre .0) (c .before .if1 .left) .extra))
+    (λ c κs. search needs)
+    returns-2)

@@ -11,12 +11,12 @@ use Rattle.rows.proofs.row.cheapest_four.Statement.{statement}
 use Rattle.rows.proofs.row.cheapest_four.Tie as tie
 
 abbrev Inv-loop : tie.InvT-loop
-Inv-loop costs table places path totals pivots place t early to n first held₀ j₀ j-end held j =
+Inv-loop costs table places path by totals pivots place t early to n first held₀ j₀ j-end held j =
     (besideOf to t ≤ j) × (j ≤ besideOf to t + 2 ^ t) × (j-end ≡ besideOf to t + 2 ^ t)
     × Columns (costsOf costs (record { table = table; places = places; path = path })) place t early to (costs .n) j totals pivots held
 
 abbrev μ-loop : tie.MeasureT-loop
-μ-loop costs table places path totals pivots place t early to n first held₀ j₀ j-end held j = besideOf to t + 2 ^ t - j
+μ-loop costs table places path by totals pivots place t early to n first held₀ j₀ j-end held j = besideOf to t + 2 ^ t - j
 
 -- the function's start, from the loop
 abbrev start : tie.At-loop Inv-loop μ-loop → tie.Start Inv-loop μ-loop

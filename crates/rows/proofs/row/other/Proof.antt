@@ -20,7 +20,7 @@ only-requires : tie.Need-only-requires
 only-requires c κs =
     let q = start (c .before) .pre in
     let n = q .1 .1 .0 in
-    (omega (arith, n .4, q .0 .small), other-light (omega (arith, n .0, q .0 .small)) (q .1 .1 .1) (c .before .load .ensures), omega (arith, c .of-move .ensures .small), omega arith)
+    (omega (arith, n .4, q .0 .small), other-light (omega (arith, n .0, q .0 .small)) (q .1 .1 .1) (c .before .load .ensures), omega (arith, c .any-move .ensures .small), omega arith)
 
 returns : tie.Need-returns
 returns c =
@@ -30,7 +30,7 @@ returns c =
     let n = q .1 .1 .0 in
     let only = c .only .ensures in
     other-made _ _ (a .totals .now) (a .pivots .now) (omega (arith, q .1 .0 .rows, n .4)) (omega (arith, q .1 .0 .marks, n .4)) (read .load .ensures)
-    (only .0, λ row s. only .1 _ row _ (record { inside = omega (arith, n .0, q .0 .small); zeros = n .1; near = n .2; below = rw (stops-of _ _) (n .3); priced = c .before .of-move .ensures; leads = s }))
+    (only .0, λ row s. only .1 _ row _ (record { inside = omega (arith, n .0, q .0 .small); zeros = n .1; near = n .2; below = rw (stops-of _ _) (n .3); priced = c .before .any-move .ensures; leads = s }))
 
 pub other-spec : {M : Type 1} → statement M
 other-spec =

@@ -13,7 +13,7 @@ returns c =
 
 returns-2 : tie.Need-returns-2
 returns-2 c =
-    let cost = c .of-move .ensures in
+    let cost = c .any-move .ensures in
     let later = c .before .if1 .left in
     first-move _ _ _ _ _ (omega (arith, later)) (fits-all _ _ _ _) (c .before .before .before .before .before .pre .1 .1 (omega (arith, later))) (cost .cost) (cost .small)
 
