@@ -23,13 +23,14 @@ use Rattle.tree.specs.Wanted.{backward}
 use Rattle.tree.proofs.Link.{length-orderOf}
 use Rattle.tree.proofs.Sides.{stop-only}
 use Rattle.tree.proofs.Theorem7.{forward}
-use Rattle.tree.specs.Wanted.{preferred, better, bestOf, found, orderIn, wanted, every}
+use Rattle.tree.specs.Wanted.{preferred, better, bestOf, found, orderIn, wanted, every, Shortest}
 use Rattle.tree.specs.Draws.{plans, lastOf, Draws}
 use Rattle.costs.specs.Costs.{closedTotal}
 use Rattle.tree.specs.Layers.{anywhere}
 use Rattle.costs.specs.Graphs.{home, tourGraph}
 use Rattle.tree.proofs.Layers.{costTo-moves, layers-draw}
 use Rattle.tree.proofs.Draws.{plans-wanted}
+use Rattle.tree.proofs.Wanted.{wanted-shortest}
 use Rattle.tree.proofs.Moves.{Carries, total-carry}
 use Rattle.tree.proofs.Open.{every-settled, wanted-one, moves-total}
 
@@ -55,6 +56,18 @@ module _ (k : ℕ) (t : ℕ → ℕ → ℕ) where
   -- THE WANTED TOUR IS THE LEAST, OVER THE LAST STOPS IN INCREASING NUMBER, OF THE BEST WALKS TO THEM
   pub tour-plan : plans (tourGraph k t) (2 ^ k) (2 ^ k - 1) ≡ at (closedTotal t (wanted k (closedTotal t) every)) (backward (wanted k (closedTotal t) every))
   tour-plan = plans-wanted k (closedTotal t) every (tourGraph k t) tour-draws (every-settled k) 0 refl
+
+  -- demand 3 for the closed total
+  pub tour-shortest : Shortest k (closedTotal t) every (wanted k (closedTotal t) every) (closedTotal t (wanted k (closedTotal t) every))
+  tour-shortest = wanted-shortest k (closedTotal t) every (every-settled k) 0 refl
+
+  -- the wanted tour has every place
+  pub tour-long : length (wanted k (closedTotal t) every) ≡ 2 ^ k
+  tour-long = ap length (sym (tour-shortest .given)) ∙ length-orderOf k (tour-shortest .forks)
+
+-- closing an order makes it no shorter
+pub closed-above : (t : ℕ → ℕ → ℕ) (o : List ℕ) → total t o ≤ closedTotal t o
+closed-above t o = omega arith
 
 -- 'for n = 1 it is 0'
 pub tour-one : (t : ℕ → ℕ → ℕ) → closedTotal t (wanted 0 (closedTotal t) every) ≡ 0

@@ -26,5 +26,8 @@ pub mod Places
 pub mod ByTable
 -- What holds of calls where places cost extra.
 pub mod PlacesCalls
+-- Tours.
+pub mod Tours
+pub mod TourCalls
 -- What k alone foretells.
 pub mod Sums

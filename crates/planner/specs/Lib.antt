@@ -3,3 +3,4 @@ pub mod Method
 pub mod Weighings
 pub mod Plan
 pub mod Places
+pub mod Tour

@@ -5,6 +5,7 @@
 // totals are made by the crate `rows`. `plan` is the instance whose costs come from a table.
 mod halve;
 mod lent;
+mod round;
 
 ghost use mathlib.Core.Path.{_≡_};
 ghost use Prim.Native.Nat.{_≤_};
@@ -12,6 +13,10 @@ ghost use Rattle.base.specs.Outcome.{number};
 ghost use Rattle.planner.specs.Weighings.{foretoldWeighings, foretold, foresaid};
 ghost use Rattle.planner.specs.Plan.{planRoom, PlansOrder};
 ghost use Rattle.planner.specs.Places.{placesRoom, PlansPlaces};
+ghost use Rattle.planner.specs.Tour.{tourRoom, PlansTour};
+
+// Tours are for k up to this.
+const MAX_TOUR_K: u16 = 7;
 
 // What planning answers: the total of the order that was written and the number of weighings, or the refusal's number.
 pub enum Planned {
@@ -72,7 +77,7 @@ pub fn plan(
     let n = base::stop_count(k);
     let none = [0u8; 1];
     let solved = halve::run(
-        rows::Costs { n },
+        rows::Costs { n, closing: n },
         table,
         &table[..0],
         &none[..0],
@@ -135,7 +140,7 @@ pub fn plan_places(
     let n = base::stop_count(k);
     let none = [0u8; 1];
     let solved = halve::run(
-        rows::Costs { n },
+        rows::Costs { n, closing: n },
         table,
         places,
         &none[..0],
@@ -145,6 +150,42 @@ pub fn plan_places(
         k as u32,
     );
     Ordered::Done(solved.total)
+}
+
+// 0, or the number of the refusal of a tour: k above 7 (5), and then as above.
+fn judge_tour(k: u16, table: usize, order: usize, totals: usize, pivots: usize) -> u16
+    ensures { λ r. ⌜ r ≡ number (tourRoom k table order totals pivots) ⌝ }
+{
+    if MAX_TOUR_K < k {
+        return base::WRONG_K;
+    }
+    judge_lengths(k, table, order, totals, pivots)
+}
+
+// M-104: as `plan`, where the move from the last stop back to the first counts too. k is at most 7; for one stop the total is 0.
+pub fn tour(
+    k: u16,
+    table: &[u32],
+    order: &mut [u16],
+    totals: &mut [u64],
+    pivots: &mut [u16],
+) -> Ordered
+    ensures { λ r. ⌜ PlansTour k table order totals pivots r ⌝ }
+{
+    let refused = judge_tour(k, table.len(), order.len(), totals.len(), pivots.len());
+    if refused != 0 {
+        return Ordered::Refused(refused);
+    }
+    let n = base::stop_count(k);
+    let total = round::whole_tour(
+        n,
+        table,
+        &mut order[..n],
+        &mut totals[..n + n],
+        &mut pivots[..n + n],
+        k as u32,
+    );
+    Ordered::Done(total)
 }
 
 // How many candidates a plan of 2^k stops weighs.

@@ -1,5 +1,5 @@
 -- Indices into a table of n rows, and the costs that come from it.
-use mathlib.Core.Path.{_≡_, refl, sym, ap, _∙_}
+use mathlib.Core.Path.{_≡_, refl, sym, ap, ap₂, _∙_}
 use mathlib.Core.Bool.{true}
 use mathlib.Core.List.{List, []}
 use mathlib.Core.Logic.{_⊎_, inl, inr}
@@ -67,15 +67,19 @@ pub priced-both : (c : Costs) (s : Sources) (place : ℕ) {from to x y : ℕ} �
 unfolding costsOf
 priced-both c s place e h f g = record { cost = omega (arith, e, f); small = omega (arith, h, g) }
 
+-- a row past the table's end has no entry
+pub entry-past : (n j i : ℕ) (l : List ℕ) → length l ≡ n * n → n ≤ j → entry n l j i ≡ 0
+entry-past n j i l e h = List·getD-eq-default l 0 (omega (arith, e, mul-le-mul-right n h))
+
 -- what a stop costs in place 0, where places cost nothing
-pub start-alone : (c : Costs) (s : Sources) (i : ℕ) → length (s .places) ≡ 0 → 0 ≡ costsOf c s .start i
+pub start-alone : (c : Costs) (s : Sources) (i : ℕ) {r : ℕ} → length (s .places) ≡ 0 → r ≡ entry (c .n) (s .table) (c .closing) i → r ≡ costsOf c s .start i
 unfolding costsOf
-start-alone c s i e = sym (entry-none (c .n) i 0 (s .places) e)
+start-alone c s i e f = omega (arith, f, entry-none (c .n) i 0 (s .places) e)
 
 -- and where they do
-pub start-both : (c : Costs) (s : Sources) (i : ℕ) {r : ℕ} → r ≡ getD (s .places) (i * c .n) 0 → r ≡ costsOf c s .start i
+pub start-both : (c : Costs) (s : Sources) (i : ℕ) {r x : ℕ} → r ≡ entry (c .n) (s .table) (c .closing) i → x ≡ getD (s .places) (i * c .n) 0 → r + x ≡ costsOf c s .start i
 unfolding costsOf
-start-both c s i e = e ∙ ap (λ j. getD (s .places) j 0) (omega arith)
+start-both c s i f e = ap₂ _+_ f (e ∙ ap (λ j. getD (s .places) j 0) (omega arith))
 
 -- no slice is lent
 pub noSources : Sources

@@ -26,13 +26,13 @@ abbrev pub lentSources : Unsigned → Unsigned → Unsigned → Sources
 lentSources table places path = record { table = atEntry table; places = atEntry places; path = atEntry path }
 
 -- THE COSTS by a table of n rows, and by a table of places if there is one: every stop may stand anywhere, a move takes its entry, and M-107: 'row stop,
--- column place': 'A stop's entry for its place is added to the total, place 0 included'. Where there is no table of places nothing is added: an
--- empty list has no entry, and what is past its end counts as 0
+-- column place': 'A stop's entry for its place is added to the total, place 0 included'. M-104: the first stop costs the move from the closing one too.
+-- Where there is no table of places, or no closing stop, nothing is added: what is past the end of a list counts as 0
 unfoldable pub costsOf : Costs → Sources → Costing
 costsOf c s = record {
   stops = c .n;
   fits = λ p i. true;
-  start = λ i. entry (c .n) (s .places) i 0;
+  start = λ i. entry (c .n) (s .table) (c .closing) i + entry (c .n) (s .places) i 0;
   weight = λ p j i. entry (c .n) (s .table) j i + entry (c .n) (s .places) i p;
 }
 

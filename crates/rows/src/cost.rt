@@ -3,6 +3,7 @@
 use crate::Costs;
 ghost use mathlib.Core.Path.{_≡_};
 ghost use Prim.Native.Nat.{_+_, _^_, _≤_, _<_};
+ghost use Rattle.tree.specs.Total.{entry};
 ghost use Rattle.rows.specs.Source.{heldSources, Readable, ReadBy, lentCosts};
 ghost use Rattle.rows.specs.Way.{Priced, CrossedMoves, PairedMoves, FourMoves};
 
@@ -70,17 +71,31 @@ pub fn any_move(
     }
 }
 
+// The move from the closing stop to stop i, and 0 where there is none.
+fn of_closing(costs: Costs, table: &[u32], places: &[u32], path: &[u8], i: usize) -> u64
+    requires { ⌜ Readable costs (heldSources table places path) ⌝ }
+    requires { ⌜ i < costs .n ⌝ }
+    ensures { λ r. ⌜ (r ≡ entry (costs .n) (now (table .entry)) (costs .closing) i) × (r < 2 ^ 32) ⌝ }
+{
+    let n = costs.n;
+    if n <= costs.closing {
+        return 0;
+    }
+    wide(table[costs.closing * n + i])
+}
+
 // What stop i costs in place 0.
 pub fn of_start(costs: Costs, table: &[u32], places: &[u32], path: &[u8], i: usize) -> u64
     requires { ⌜ Readable costs (heldSources table places path) ⌝ }
     requires { ⌜ i < costs .n ⌝ }
     ensures { λ r. ⌜ (r ≡ lentCosts costs table places path .start i) × (r < 2 ^ 33) ⌝ }
 {
+    let home = of_closing(costs, table, places, path, i);
     if places.len() == 0 {
-        return 0;
+        return home;
     }
     let n = costs.n;
-    wide(places[i * n])
+    home + wide(places[i * n])
 }
 
 // The moves to the stops i to i + 3, each from the other of its pair.

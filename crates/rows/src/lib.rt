@@ -13,9 +13,10 @@ mod way;
 ghost use Rattle.rows.specs.Source.{lentSources};
 ghost use Rattle.rows.specs.Pass.{MakesPass, StartTold};
 
-// Where costs come from, and for how many stops: a table of n rows.
+// Where costs come from, and for how many stops: a table of n rows, and the stop whose move to the first stop counts as well, n for none.
 pub struct Costs {
     pub n: usize,
+    pub closing: usize,
 }
 
 // One pass over the 2^m places from `left` on, for the 2^m stops from `base` on, after the stop `before` (before place 0 there is none, and it is not

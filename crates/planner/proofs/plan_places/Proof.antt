@@ -41,7 +41,7 @@ returns c =
 
 -- the costs that come from the tables
 abbrev costs : tie.After-stop-count → Costs
-costs c = record { n = c .stop-count .result }
+costs c = record { n = c .stop-count .result; closing = c .stop-count .result }
 
 run-requires : tie.Need-run-requires
 run-requires c κs =
@@ -50,7 +50,7 @@ run-requires c κs =
     let e = count at in
     let l = lent at in (
       record { small = l .3; square = f .fit .square ∙ ap (λ x. x * x) (sym e); extra = inr (f .extra ∙ ap (λ x. x * x) (sym e)) },
-      (record { k = start at .args .k; small = f .fit .small; stops = e; places = length-take-le _ _ (l .0); rows = length-take-le _ _ (l .1); marks = length-take-le _ _ (l .2) }, (e, both-plan (costs at) _ _ e)),
+      (record { k = start at .args .k; small = f .fit .small; stops = e; places = length-take-le _ _ (l .0); rows = length-take-le _ _ (l .1); marks = length-take-le _ _ (l .2) }, (e, both-plan (costs at) _ _ e (record { none = omega arith; square = fit at .fit .square ∙ ap (λ x. x * x) (sym e) }))),
     )
 
 returns-2 : tie.Need-returns-2
@@ -59,7 +59,7 @@ returns-2 c =
     let at = run .before .before .before .before .before in
     let a = start at .args in
     let e = count at in
-    order-written (a .k) _ (a .order .now) (a .totals .now) (a .pivots .now) (at .stop-count .result) _ e (rw (fit at .same)) (placed-long (a .k) _ _) (both-left (costs at) _ (run .run .result) e (run .run .ensures))
+    order-written (a .k) _ (a .order .now) (a .totals .now) (a .pivots .now) (at .stop-count .result) _ e (rw (fit at .same)) (placed-long (a .k) _ _) (both-left (costs at) _ (run .run .result) e (record { none = omega arith; square = fit at .fit .square ∙ ap (λ x. x * x) (sym e) }) (run .run .ensures))
 
 pub plan-places-spec : {M : Type 1} → statement M
 plan-places-spec =

@@ -1,4 +1,4 @@
--- `rows::cost::of_start` meets its contract: an entry of place 0, or nothing.
+-- `rows::cost::of_start` meets its contract: the move from the closing stop, and the entry of place 0.
 use Prim.Native.Nat.{_+_, _*_, _<_, _≤_}
 use native.Mathlib.Omega.{arith}
 use borrow.Author.Needs.{needs}
@@ -14,19 +14,24 @@ small c =
 
 returns : tie.Need-returns
 returns c =
-    let at = c .before .before .before .before in
-    (start-alone _ _ (at .args .i) (c .if1 .taken), omega arith)
+    let home = c .before in
+    (start-alone _ _ (home .before .before .before .before .args .i) (c .if1 .taken) (home .of-closing .ensures .0), omega (arith, home .of-closing .ensures .1))
 
 returns-2 : tie.Need-returns-2
-returns-2 c = let read = c .wide .ensures in (start-both _ _ (c .before .before .before .before .before .before .args .i) (read .0), omega (arith, read .1))
+returns-2 c =
+    let home = c .before .before .before in
+    let read = c .wide .ensures in
+    (start-both _ _ (home .before .before .before .before .args .i) (home .of-closing .ensures .0) (read .0), omega (arith, home .of-closing .ensures .1, read .1))
 
 pub of-start-spec : {M : Type 1} → statement M
 of-start-spec =
     tie.close
     (tie.spec
-    returns
-    (λ c. omega (arith, small (c .before .before .before .before)))
-    (λ c. omega (arith, small (c .before .before .before .before)))
-    (λ c. let at = c .before .before .before .before .before in omega (arith, small at, read-places (at .pre .0) (c .before .if1 .left) .extra))
     (λ c κs. search needs)
+    returns
+    (λ c. omega (arith, small (c .before .before .before .before .before)))
+    (λ c. omega (arith, small (c .before .before .before .before .before)))
+    (λ c. let at = c .before .before .before .before .before .before in omega (arith, small at, read-places (at .pre .0) (c .before .if1 .left) .extra))
+    (λ c κs. search needs)
+    (λ c. search needs)
     returns-2)
