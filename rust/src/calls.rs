@@ -120,6 +120,7 @@ pub enum Call {
     Plan { k: u16 },
     PlanWeighings { k: u16 },
     PlanPlaces { k: u16 },
+    Tour { k: u16 },
     Foretell { k: u16 },
     PlanPath { highest: u16 },
     PlanFilled { k: u16 },
@@ -195,6 +196,7 @@ macro_rules! made_to {
             Call::Plan { k } => $module::plan(k, &$l.table, &mut $l.order, &mut $l.totals, &mut $l.pivots).map(one),
             Call::PlanWeighings { k } => $module::plan_weighings(k, &$l.table, &mut $l.order, &mut $l.totals, &mut $l.pivots).map(one),
             Call::PlanPlaces { k } => $module::plan_places(k, &$l.table, &$l.places, &mut $l.order, &mut $l.totals, &mut $l.pivots).map(one),
+            Call::Tour { k } => $module::tour(k, &$l.table, &mut $l.order, &mut $l.totals, &mut $l.pivots).map(one),
             Call::Foretell { k } => $module::foretell(k).map(|(bytes, weighings)| vec![one(bytes)[0], one(weighings)[0]]),
             Call::PlanPath { highest } => {
                 $module::plan_path(&$l.bytes, highest, &mut $l.table, &mut $l.order, &mut $l.totals, &mut $l.pivots)

@@ -140,7 +140,7 @@ fn spoil_number(random: &mut Random, call: &mut Call) {
         Call::ExchangeFork { highest, fork } => *(if random.below(2) == 0 { highest } else { fork }) = other,
         Call::CellRewrite { highest, version } => *(if random.below(2) == 0 { highest } else { version }) = other,
         Call::WritePath { version, k } | Call::TableFrom { version, k } => *(if random.below(2) == 0 { version } else { k }) = other,
-        Call::Plan { k } | Call::PlanWeighings { k } | Call::PlanPlaces { k } | Call::Foretell { k } => *k = other,
+        Call::Plan { k } | Call::PlanWeighings { k } | Call::PlanPlaces { k } | Call::Tour { k } | Call::Foretell { k } => *k = other,
         Call::MakeTable { k } | Call::PlanFilled { k } | Call::ForkBits { k } | Call::OrderOfBits { k } => *k = other,
         Call::Exchange { k } | Call::OrderTotal { k } | Call::WriteOrderFile { k } | Call::ReadOrderFile { k } => *k = other,
     }

@@ -39,6 +39,10 @@ mod declared {
             k: u16, table: *const u32, table_len: usize, places: *const u32, places_len: usize,
             order: *mut u16, order_len: usize, totals: *mut u64, totals_len: usize, pivots: *mut u16, pivots_len: usize,
         ) -> i64;
+        pub fn ffi_tour(
+            k: u16, table: *const u32, table_len: usize,
+            order: *mut u16, order_len: usize, totals: *mut u64, totals_len: usize, pivots: *mut u16, pivots_len: usize,
+        ) -> i64;
         pub fn ffi_foretell_bytes(k: u16) -> i64;
         pub fn ffi_foretell_weighings(k: u16) -> i64;
         pub fn ffi_plan_path(
@@ -184,6 +188,13 @@ pub fn plan_places(
         )
     };
     answer(result)
+}
+
+/// `planner::tour`: the closed total.
+pub fn tour(k: u16, table: &[u32], order: &mut [u16], totals: &mut [u64], pivots: &mut [u16]) -> Result<u64, u16> {
+    let (order_len, totals_len, pivots_len) = (order.len(), totals.len(), pivots.len());
+    let (order, totals, pivots) = (order.as_mut_ptr(), totals.as_mut_ptr(), pivots.as_mut_ptr());
+    answer(unsafe { declared::ffi_tour(k, table.as_ptr(), table.len(), order, order_len, totals, totals_len, pivots, pivots_len) })
 }
 
 /// `planner::foretell`: the bytes of lent work space, and the weighings.

@@ -4,7 +4,8 @@
 //! There are two loop orders, and each is written once: `Columns` is the paper's (for each stop its candidates), `Rows` goes along the
 //! table's rows (for each candidate the stops that it may come before). `Checked` and `Unchecked` reach the numbers with and without the
 //! bounds checks. `Slices` goes along the rows too, in the way that spares most checks: by slices and iterators. `Pairs` is the paper's
-//! order with two neighbouring stops at a time. Where places cost extra (M-107), each adds a stop's entry once its way is found.
+//! order with two neighbouring stops at a time. Where places cost extra (M-107), each adds a stop's entry once its way is found. A round trip
+//! (M-104) takes one pass for each last stop, in which the first stop costs the move from it, and one halving.
 
 use std::ops::Range;
 
@@ -51,6 +52,11 @@ pub struct Row<'a> {
 /// What a stop costs in a place, beside the moves.
 pub trait Extra: Copy {
     fn of<A: Access>(self, n: usize, stop: usize, place: usize) -> u64;
+    /// The same in the first place of a pass.
+    #[inline(always)]
+    fn first(self, n: usize, stop: usize, place: usize) -> u64 {
+        self.of::<Checked>(n, stop, place)
+    }
     /// Adds it to the totals of a block.
     fn add(self, n: usize, totals: &mut [u64], place: usize, block: Range<usize>);
 }
@@ -84,6 +90,23 @@ impl Extra for Places<'_> {
             *total += u64::from(row[place]);
         }
     }
+}
+
+/// In place 0 the move from a tour's last stop, by the table of moves, and nothing elsewhere.
+#[derive(Clone, Copy)]
+pub struct Home<'a>(&'a [u32], usize);
+
+impl Extra for Home<'_> {
+    #[inline(always)]
+    fn of<A: Access>(self, _: usize, _: usize, _: usize) -> u64 {
+        0
+    }
+    #[inline(always)]
+    fn first(self, n: usize, stop: usize, place: usize) -> u64 {
+        if place == 0 { self.0[self.1 * n + stop].into() } else { 0 }
+    }
+    #[inline(always)]
+    fn add(self, _: usize, _: &mut [u64], _: usize, _: Range<usize>) {}
 }
 
 /// The costs of n stops: a table of moves, and what places cost.
@@ -244,7 +267,7 @@ fn sweep<S: Step, E: Extra>(costs: Costs<E>, order: &[u16], work: &mut Work, lef
     let mut new = Row { totals: odd_totals, pivots: odd_pivots };
     for stop in base..base + size {
         let time = if left == 0 { 0 } else { u64::from(table[order[left - 1] as usize * n + stop]) };
-        old.totals[stop] = time + extra.of::<Checked>(n, stop, left);
+        old.totals[stop] = time + extra.first(n, stop, left);
         old.pivots[stop] = stop as u16;
     }
     for p in left + 1..left + size {
@@ -322,4 +345,42 @@ pub fn plan_places<S: Step>(
     }
     let work = Work { totals: &mut totals[..2 * n], pivots: &mut pivots[..2 * n] };
     Ok(planned::<S, _>(k.into(), Costs { n, table, extra: Places(places) }, &mut order[..n], work))
+}
+
+/// The wanted tour of 2^k stops, two or more, and its closed total: of equals the smallest last stop.
+#[inline(always)]
+fn best_tour<S: Step>(k: u32, n: usize, table: &[u32], order: &mut [u16], work: &mut Work) -> u64 {
+    let closing = |last| Costs { n, table, extra: Home(table, last) };
+    let mut held = (u64::MAX, 0);
+    order.fill(0);
+    for last in 0..n {
+        sweep::<S, _>(closing(last), order, work, 0, 0, k);
+        if work.totals[n + last] < held.0 {
+            held = (work.totals[n + last], last);
+        }
+    }
+    order[n - 1] = held.1 as u16;
+    solve::<S, _>(closing(held.1), order, work, 0, k);
+    held.0
+}
+
+/// The wanted tour of 2^k stops in the first places of `order`, and its closed total, or the refusal's number. The work space is 0 afterwards.
+pub fn tour<S: Step>(k: u16, table: &[u32], order: &mut [u16], totals: &mut [u64], pivots: &mut [u16]) -> Result<u64, u16> {
+    if k > 7 {
+        return Err(5);
+    }
+    if let Some(number) = crate::reading::refusal(k, table.len(), order.len(), totals.len(), pivots.len()) {
+        return Err(number);
+    }
+    let n = 1usize << k;
+    let mut work = Work { totals: &mut totals[..2 * n], pivots: &mut pivots[..2 * n] };
+    let mut total = 0;
+    if k == 0 {
+        order[0] = 0;
+    } else {
+        total = best_tour::<S>(k.into(), n, table, &mut order[..n], &mut work);
+    }
+    work.totals.fill(0);
+    work.pivots.fill(0);
+    Ok(total)
 }

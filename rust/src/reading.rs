@@ -16,6 +16,7 @@ mod records;
 mod refusals;
 mod screen;
 mod stops;
+mod tours;
 mod tree;
 mod weighings;
 
@@ -32,5 +33,6 @@ pub use plans::{plan, plan_path};
 pub use refusals::*;
 pub use screen::{exchange_fork, group_sums};
 pub use stops::{make_table, travel_time, Stop};
+pub use tours::{closed_total, tour, tour_by_last_stops};
 pub use tree::{allowed, by_enumeration, by_whole_tables, every_set, fork_above, may_follow, move_cost, order_of, preferred, refusal, total};
 pub use weighings::{foretell, of_pass, plan_weighings};

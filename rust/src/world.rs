@@ -127,7 +127,7 @@ impl World {
     }
 
     /// Each call once, with numbers that suit this world.
-    pub fn calls(&self, random: &mut Random) -> [Call; 25] {
+    pub fn calls(&self, random: &mut Random) -> [Call; 26] {
         let k = self.k;
         let highest = self.version + random.below(u64::from(7 - self.version)) as u16;
         let version = 4 + random.below(3) as u16;
@@ -142,6 +142,7 @@ impl World {
             Call::Plan { k },
             Call::PlanWeighings { k },
             Call::PlanPlaces { k },
+            Call::Tour { k },
             Call::Foretell { k },
             Call::PlanPath { highest },
             Call::PlanFilled { k },
@@ -199,7 +200,7 @@ impl World {
             lent.blends[..n].copy_from_slice(&self.blends);
             lent.dwells[..n].copy_from_slice(&self.dwells);
         }
-        if matches!(call, Call::Plan { .. } | Call::PlanWeighings { .. } | Call::PlanPlaces { .. } | Call::PlanFilled { .. } | Call::OrderTotal { .. } | Call::WriteOrderFile { .. } | Call::ReadOrderFile { .. }) {
+        if matches!(call, Call::Plan { .. } | Call::PlanWeighings { .. } | Call::PlanPlaces { .. } | Call::Tour { .. } | Call::PlanFilled { .. } | Call::OrderTotal { .. } | Call::WriteOrderFile { .. } | Call::ReadOrderFile { .. }) {
             lent.table.copy_from_slice(&self.table);
         }
         if matches!(call, Call::PlanPlaces { .. }) {

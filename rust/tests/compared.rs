@@ -54,6 +54,7 @@ fn every_call_with_faults() {
     assert_eq!(seen.numbers("Plan"), [0, 5, 8]);
     assert_eq!(seen.numbers("PlanWeighings"), [0, 5, 8]);
     assert_eq!(seen.numbers("PlanPlaces"), [0, 5, 8]);
+    assert_eq!(seen.numbers("Tour"), [0, 5, 8]);
     assert_eq!(seen.numbers("Foretell"), [0, 5]);
     for call in ["ForkBits", "OrderTotal", "WriteOrderFile"] {
         assert_eq!(seen.numbers(call), [0, 5, 8, 9, 10]);
@@ -199,6 +200,7 @@ fn with_number(call: Call, number: u16) -> Vec<Call> {
         Call::Plan { .. } => vec![Call::Plan { k: number }],
         Call::PlanWeighings { .. } => vec![Call::PlanWeighings { k: number }],
         Call::PlanPlaces { .. } => vec![Call::PlanPlaces { k: number }],
+        Call::Tour { .. } => vec![Call::Tour { k: number }],
         Call::Foretell { .. } => vec![Call::Foretell { k: number }],
         Call::PlanPath { .. } => vec![Call::PlanPath { highest: number }],
         Call::PlanFilled { .. } => vec![Call::PlanFilled { k: number }],

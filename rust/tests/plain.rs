@@ -66,6 +66,12 @@ fn by_plain(call: Call) -> Vec<Plain> {
             Box::new(move |l| plain::plan_places::<Slices>(k, &l.table, &l.places, &mut l.order, &mut l.totals, &mut l.pivots).map(one)),
             Box::new(move |l| plain::plan_places::<Pairs<Checked>>(k, &l.table, &l.places, &mut l.order, &mut l.totals, &mut l.pivots).map(one)),
         ],
+        Call::Tour { k } => vec![
+            Box::new(move |l| plain::tour::<Columns<Checked>>(k, &l.table, &mut l.order, &mut l.totals, &mut l.pivots).map(one)),
+            Box::new(move |l| plain::tour::<Rows<Checked>>(k, &l.table, &mut l.order, &mut l.totals, &mut l.pivots).map(one)),
+            Box::new(move |l| plain::tour::<Slices>(k, &l.table, &mut l.order, &mut l.totals, &mut l.pivots).map(one)),
+            Box::new(move |l| plain::tour::<Pairs<Checked>>(k, &l.table, &mut l.order, &mut l.totals, &mut l.pivots).map(one)),
+        ],
         Call::PlanFilled { k } => vec![
             Box::new(move |l| plain_filled::plan_filled::<One>(k, &l.table, &l.empties, &mut l.list, &mut l.bits, &mut l.work).map(listed)),
             Box::new(move |l| plain_filled::plan_filled::<Two>(k, &l.table, &l.empties, &mut l.list, &mut l.bits, &mut l.work).map(listed)),

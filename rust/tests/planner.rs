@@ -5,7 +5,9 @@ use evidence::{
     cases::{any_set, any_table, planted, rounds, seeded, table},
     cubic,
     plain::{self, Checked, Columns, Pairs, Rows, Slices, Unchecked},
-    reading::{allowed, by_enumeration, by_whole_tables, every_set, move_cost, order_of, placed_cost, placed_total, preferred, total},
+    reading::{
+        allowed, by_enumeration, by_whole_tables, closed_total, every_set, move_cost, order_of, placed_cost, placed_total, preferred, total, tour_by_last_stops,
+    },
     world::{planner_lent, planner_suiting},
 };
 
@@ -74,6 +76,29 @@ fn places_against_both_methods() {
     }
 }
 
+/// 'Among tours the least total is wanted, ties as before', by enumeration and by whole tables; 'for n = 1 it is 0'; 'For k = 1 the two totals are
+/// equal, so the tour is 1, 0'; closing an order adds a move.
+#[test]
+fn tours_against_both_methods() {
+    let mut random = seeded("tours");
+    for (k, count) in [(0, 2000), (1, 5000), (2, 20_000), (3, 20_000), (4, 1500), (5, 150), (6, 15), (7, 3)] {
+        for _ in 0..count * rounds() {
+            let table = any_table(&mut random, k.into());
+            let mut lent = planner_suiting(&mut random, k, &table);
+            assert_eq!(compare(Call::Tour { k }, &lent), 0);
+            let sum = by_library(Call::Tour { k }, &mut lent).expect("the lengths suffice")[0];
+            let order = lent.order[..1 << k].to_vec();
+            assert!(allowed(&order));
+            assert_eq!(sum as u64, closed_total(&table, &order));
+            assert!(k > 0 || sum == 0);
+            assert!(k != 1 || order == [1, 0]);
+            let open = by_library(Call::Plan { k }, &mut lent).expect("the lengths suffice")[0];
+            let closed = closed_total(&table, &lent.order[..1 << k]);
+            assert!(open <= sum && sum as u64 <= closed, "k = {k}");
+        }
+    }
+}
+
 #[test]
 fn totals_against_the_cubic_method() {
     let mut random = seeded("cubic method");
@@ -102,6 +127,8 @@ fn the_reading_agrees_with_itself() {
             assert_eq!(by_moves, by_whole_tables(k, |_, before, stop| move_cost(n, &table, before, stop)));
             let by_both = by_enumeration(&orders, |order| placed_total(&table, &places, order));
             assert_eq!(by_both, by_whole_tables(k, |place, before, stop| placed_cost(n, &table, &places, place, before, stop)));
+            let by_closed = by_enumeration(&orders, |order| closed_total(&table, order));
+            assert!(k == 0 || by_closed == tour_by_last_stops(k, &table));
         }
     }
     for k in 4..=10 {

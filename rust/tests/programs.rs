@@ -4,7 +4,7 @@ use evidence::{
     cases::{rounds, seeded},
     damage::damage,
     random::Random,
-    reading::{all_orders, clear, come_back, exchange_fork, group_sums, keep, plan_filled, plan_places},
+    reading::{all_orders, clear, come_back, exchange_fork, group_sums, keep, plan_filled, plan_places, tour},
     world::World,
 };
 use std::{
@@ -93,8 +93,23 @@ fn due_of_places(call: &str) -> String {
     let [k, rule, extra, table, places, order, totals, pivots] = numbers[..] else { panic!("{call}") };
     let n = if k <= 4 { 1 << k } else { 4 };
     let [table, places] = [(rule, table), (extra, places)].map(|(rule, size)| (0..size).map(|i| planner_entry(rule, i / n, i % n)).collect::<Vec<_>>());
-    let (mut order, mut totals, mut pivots) = (vec![77u16; order as usize], vec![77u64; totals as usize], vec![77u16; pivots as usize]);
-    let answer = match plan_places(k as u16, &table, &places, &mut order, &mut totals, &mut pivots) {
+    due_of_order([order, totals, pivots], |order, totals, pivots| plan_places(k as u16, &table, &places, order, totals, pivots))
+}
+
+/// The same for a tour: k, the rule, the lent lengths.
+fn due_of_tour(call: &str) -> String {
+    let numbers: Vec<u64> = call.split([' ', ',']).filter_map(|word| word.parse().ok()).collect();
+    let [k, rule, table, order, totals, pivots] = numbers[..] else { panic!("{call}") };
+    let n = if k <= 4 { 1 << k } else { 4 };
+    let table: Vec<u32> = (0..table).map(|i| planner_entry(rule, i / n, i % n)).collect();
+    due_of_order([order, totals, pivots], |order, totals, pivots| tour(k as u16, &table, order, totals, pivots))
+}
+
+/// The answer, the order and the work space that a call leaves in buffers of these lengths.
+fn due_of_order(lent: [u64; 3], plan: impl Fn(&mut [u16], &mut [u64], &mut [u16]) -> Result<u64, u16>) -> String {
+    let [order, totals, pivots] = lent.map(|length| length as usize);
+    let (mut order, mut totals, mut pivots) = (vec![77u16; order], vec![77u64; totals], vec![77u16; pivots]);
+    let answer = match plan(&mut order, &mut totals, &mut pivots) {
         Err(number) => number.to_string(),
         Ok(total) => format!("0, total {total}"),
     };
@@ -105,16 +120,27 @@ fn due_of_places(call: &str) -> String {
     format!("{answer}, order{}, 0 in {zeros}, 77 in {others}", spaced(&order, u16::to_string))
 }
 
+/// The lines of the planner's program that begin with this word, more than so many.
+fn planner_lines(word: &str, more_than: usize, due: fn(&str) -> String) {
+    let text = text("test_planner/stdout");
+    let lines: Vec<&str> = text.lines().filter(|line| line.starts_with(word)).collect();
+    for line in &lines {
+        let (call, written) = line.split_once(": ").expect("a call and its answer");
+        assert_eq!(written, due(call), "{call}");
+    }
+    assert!(lines.len() > more_than, "{} lines", lines.len());
+}
+
 /// The planner's program, where places cost extra.
 #[test]
 fn places_that_cost_extra() {
-    let text = text("test_planner/stdout");
-    let lines: Vec<&str> = text.lines().filter(|line| line.starts_with("places")).collect();
-    for line in &lines {
-        let (call, written) = line.split_once(": ").expect("a call and its answer");
-        assert_eq!(written, due_of_places(call), "{call}");
-    }
-    assert!(lines.len() > 40, "{} lines", lines.len());
+    planner_lines("places", 40, due_of_places);
+}
+
+/// The planner's program, for round trips.
+#[test]
+fn round_trips() {
+    planner_lines("tour", 35, due_of_tour);
 }
 
 /// The bytes of the path that a function of a file below crates/ puts.

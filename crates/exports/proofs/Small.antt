@@ -7,8 +7,8 @@ use lib.IntN.{pos}
 use lib.ListN.{length}
 use Rattle.tree.specs.Total.{total}
 use Rattle.tree.proofs.Small.{total-small}
-use Rattle.costs.specs.Costs.{placedTotal}
-use Rattle.costs.proofs.Bounds.{placed-small}
+use Rattle.costs.specs.Costs.{placedTotal, closedTotal}
+use Rattle.costs.proofs.Bounds.{placed-small, closed-small}
 use Rattle.signed.specs.Result.{given, atMost}
 use Rattle.signed.proofs.AtMost.{kept-below}
 use Rattle.signed.proofs.Result.{value-given}
@@ -27,6 +27,10 @@ total-packed t o version k h b = ap (λ (x : ℕ). x * totalUnit + version * ver
 pub placed-given : (t x : ℕ → ℕ → ℕ) (o : List ℕ) → ((a b : ℕ) → t a b ≤ 4294967295) → ((i j : ℕ) → x i j ≤ 4294967295) → length o ≤ 1024
     → given (placedTotal t x o) ≡ pos (placedTotal t x o)
 placed-given t x o f g b = value-given (placedTotal t x o) (omega (arith, placed-small t x o f g b))
+
+-- so is a closed one
+pub closed-given : (t : ℕ → ℕ → ℕ) (o : List ℕ) → ((a b : ℕ) → t a b ≤ 4294967295) → length o ≤ 1024 → given (closedTotal t o) ≡ pos (closedTotal t o)
+closed-given t o h b = value-given (closedTotal t o) (omega (arith, closed-small t o h b))
 
 -- so is the total of a list of up to 64 stops, beside its length
 pub list-packed : (t : ℕ → ℕ → ℕ) (o : List ℕ) → ((a b : ℕ) → t a b ≤ 4294967295) → length o ≤ 64 → listed (total t o) (length o) ≡ total t o * lengthUnit + length o

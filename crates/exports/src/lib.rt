@@ -32,6 +32,7 @@ ghost use Rattle.times.specs.Table.{MakesTable, FillsTable, said as tableMade};
 ghost use Rattle.planner.specs.Weighings.{foretold};
 ghost use Rattle.planner.specs.Plan.{PlansOrder, said as orderPlanned};
 ghost use Rattle.planner.specs.Places.{PlansPlaces, orderSaid};
+ghost use Rattle.planner.specs.Tour.{PlansTour};
 ghost use Rattle.path_plan.specs.PathPlan.{PlansPath, said as pathPlanned};
 ghost use Rattle.filled.specs.Filled.{PlansList, said as listPlanned};
 ghost use Rattle.screen.specs.Screen.{MakesSums, ExchangesFork, said as recordsMade};
@@ -172,6 +173,24 @@ pub extern "C" fn ffi_plan_places(
     ensures { λ r. ⌜ Exported (PlansPlaces k table places order totals pivots) (λ a. signed itself (orderSaid a)) r ⌝ }
 {
     let answer = planner::plan_places(k, table, places, order, totals, pivots);
+    match answer {
+        Ordered::Done(total) => value(total),
+        Ordered::Refused(number) => refusal(number),
+    }
+}
+
+// `planner::tour`: the closed total.
+#[no_mangle]
+pub extern "C" fn ffi_tour(
+    k: u16,
+    table: &[u32],
+    order: &mut [u16],
+    totals: &mut [u64],
+    pivots: &mut [u16],
+) -> i64
+    ensures { λ r. ⌜ Exported (PlansTour k table order totals pivots) (λ a. signed itself (orderSaid a)) r ⌝ }
+{
+    let answer = planner::tour(k, table, order, totals, pivots);
     match answer {
         Ordered::Done(total) => value(total),
         Ordered::Refused(number) => refusal(number),

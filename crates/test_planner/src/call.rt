@@ -12,7 +12,7 @@ pub fn title(k: u16, rule: u32) {
 }
 
 // The lent lengths.
-fn lengths(table: &[u32], order: &[u16], totals: &[u64], pivots: &[u16]) {
+pub fn lengths(table: &[u32], order: &[u16], totals: &[u64], pivots: &[u16]) {
     write::value(b", lent ", table.len() as u64);
     write::number(order.len() as u64);
     write::number(totals.len() as u64);

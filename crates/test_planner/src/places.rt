@@ -25,7 +25,7 @@ fn lengths(table: &[u32], places: &[u32], order: &[u16], totals: &[u64], pivots:
 }
 
 // The number of a refusal, or 0 and the total.
-fn answer(ordered: Ordered) {
+pub fn answer(ordered: Ordered) {
     match ordered {
         Ordered::Done(total) => write::value(b": 0, total ", total),
         Ordered::Refused(refusal) => write::value(b": ", test_support::wide(refusal)),

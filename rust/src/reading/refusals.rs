@@ -8,7 +8,8 @@ pub const WRONG_LENGTH: u16 = 2;
 pub const WRONG_KIND: u16 = 3;
 /// 'version not 4 or 5, or above the highest known; highest known not 4 or 5'; M-102: 'may be 4, 5 or 6'
 pub const WRONG_VERSION: u16 = 4;
-/// 'k above 10, or an order file's k not the path's'; M-111: 'k goes up to 6, above that 5'; M-112: 'For k up to 3, above that 5'
+/// 'k above 10, or an order file's k not the path's'; M-111: 'k goes up to 6, above that 5'; M-112: 'For k up to 3, above that 5'; M-104: 'Tours are
+/// for k up to 7; above that 5 is given'
 pub const WRONG_K: u16 = 5;
 /// 'a stop's field out of range'; M-111: 'another value among the first n is 6'
 pub const OUT_OF_RANGE: u16 = 6;

@@ -94,10 +94,10 @@ pub fn allowed(order: &[u16]) -> bool {
     order.iter().all(|&stop| (stop as usize) < n) && (1..n).all(|p| may_follow(p, order[p - 1] as usize, order[p] as usize))
 }
 
-/// The wanted order and its total by whole tables: for every place and every stop there the preferred of all beginnings that end with it,
-/// kept as a whole order, from every stop that may come before. `cost` is what a place adds to the total: by the place, the stop in the place
-/// before it where there is one, and its own stop.
-pub fn by_whole_tables(k: u32, cost: impl Fn(usize, Option<usize>, usize) -> u64) -> (Vec<u16>, u64) {
+/// For every stop the preferred of all orders that end with it, and its total, by whole tables: for every place and every stop there the
+/// preferred of all beginnings that end with it, kept as a whole order, from every stop that may come before. `cost` is what a place adds to the
+/// total: by the place, the stop in the place before it where there is one, and its own stop.
+pub(super) fn best_to_each_stop(k: u32, cost: impl Fn(usize, Option<usize>, usize) -> u64) -> Vec<(Vec<u16>, u64)> {
     let n = 1usize << k;
     let mut row: Vec<(Vec<u16>, u64)> = (0..n).map(|stop| (vec![stop as u16], cost(0, None, stop))).collect();
     for p in 1..n {
@@ -119,6 +119,12 @@ pub fn by_whole_tables(k: u32, cost: impl Fn(usize, Option<usize>, usize) -> u64
             })
             .collect();
     }
+    row
+}
+
+/// The wanted order and its total by whole tables.
+pub fn by_whole_tables(k: u32, cost: impl Fn(usize, Option<usize>, usize) -> u64) -> (Vec<u16>, u64) {
+    let row = best_to_each_stop(k, cost);
     let mut held = &row[0];
     for other in &row {
         if preferred((&other.0, other.1), (&held.0, held.1)) {

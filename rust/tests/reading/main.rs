@@ -9,6 +9,7 @@ mod orders;
 mod paths;
 mod places;
 mod screen;
+mod tours;
 
 use evidence::{
     cases::{any_set, seeded},

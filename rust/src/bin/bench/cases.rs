@@ -80,6 +80,17 @@ const CASES: &[Case] = &[
         ],
     },
     Case {
+        name: "tour",
+        call: |k| Call::Tour { k },
+        paths: &[(5, 6), (7, 6)],
+        proved: |k, l| ffi::tour(k, &l.table, &mut l.order, &mut l.totals, &mut l.pivots),
+        plain: &[
+            ("paper's order", plain_tour::<Columns<Checked>>),
+            ("rows by slices", plain_tour::<Slices>),
+            ("two stops at a time", plain_tour::<Pairs<Checked>>),
+        ],
+    },
+    Case {
         name: "plan_filled, all filled",
         call: |k| Call::PlanFilled { k },
         paths: &[(6, 5)],
@@ -177,6 +188,10 @@ fn plain_plan_path<S: Step>(_: u16, l: &mut Lent<Heap>) -> Result<u64, u16> {
 
 fn plain_places<S: Step>(k: u16, l: &mut Lent<Heap>) -> Result<u64, u16> {
     plain::plan_places::<S>(k, &l.table, &l.places, &mut l.order, &mut l.totals, &mut l.pivots)
+}
+
+fn plain_tour<S: Step>(k: u16, l: &mut Lent<Heap>) -> Result<u64, u16> {
+    plain::tour::<S>(k, &l.table, &mut l.order, &mut l.totals, &mut l.pivots)
 }
 
 /// A list's total, with every stop filled.

@@ -20,6 +20,7 @@ const CALLS: &str = "\
 Paths of 2^k stops whose fields take their whole range. `plan_path` leads from path bytes to the order. Plain Rust goes through the records by
 indices or takes them off the front as arrays (chunks); its `cell_check` makes no table and sums the n − 1 moves; the planner's ways are those
 below. `table_from` makes the table from path bytes. `plan_places` plans by the travel times and a second table of random entries.
+`tour` plans a round trip by one pass for each last stop and one halving.
 `plan_filled` weighs one stop's candidates at a time or those of two neighbouring stops together. `exchange_fork` validates order and sums before it exchanges
 the root or the last fork; each call undoes the one before.";
 
