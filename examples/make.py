@@ -107,6 +107,8 @@ def dwelling(stops, dwells):
 
 # a dwell at the stop where the wanted order begins changes nothing, since no move arrives there; one where it ends makes another order the wanted one
 RESTING = {"first": dwelling(FIFTY, (0, 0, 20, 0)), "last": dwelling(FIFTY, (20, 0, 0, 0))}
+# a slower gripper rests 20 ms longer at every stop: the same order, and each of its three moves takes 20 more
+SLOWER = dwelling(FIFTY, (20, 20, 20, 20))
 SOFT = dwelling(EIGHT, [i * 1733 % 5001 for i in range(8)])
 
 
@@ -119,6 +121,9 @@ def paths():
         yield f"good-{name}-6", path(6, k, stops), answer
     for name, stops in RESTING.items():
         yield f"good-dwell-{name}-6", path(6, 2, stops), order_file(2, stops, wanted(2, stops))
+    # beside good-fifty-6, whose dwells are 0 and whose total is 50
+    assert wanted(2, SLOWER) == wanted(2, FIFTY)
+    yield "good-slower-gripper-6", path(6, 2, SLOWER), order_file(2, SLOWER, wanted(2, FIFTY), said=50 + 3 * 20)
     yield "good-dwells-6", path(6, 3, SOFT), order_file(3, SOFT, wanted(3, SOFT))
     yield "good-blended-5", path(5, 1, BLENDED), order_file(1, BLENDED, wanted(1, BLENDED))
     unblended = full(stop[:4] for stop in CORNER)

@@ -5,6 +5,7 @@ use evidence::{
     cases::{any_set, any_table, planted, rounds, seeded, table},
     cubic,
     plain::{self, Checked, Columns, Pairs, Rows, Slices, Unchecked},
+    random::Random,
     reading::{
         allowed, by_enumeration, by_whole_tables, closed_total, every_set, move_cost, order_of, placed_cost, placed_total, preferred, total, tour_by_last_stops,
     },
@@ -95,6 +96,50 @@ fn tours_against_both_methods() {
             let open = by_library(Call::Plan { k }, &mut lent).expect("the lengths suffice")[0];
             let closed = closed_total(&table, &lent.order[..1 << k]);
             assert!(open <= sum && sum as u64 <= closed, "k = {k}");
+        }
+    }
+}
+
+/// The order and the total that a call gives by two tables, of which only `plan_places` has the second.
+fn found(random: &mut Random, call: Call, k: u16, table: &[u32], places: &[u32]) -> (Vec<u16>, u64) {
+    let mut lent = planner_suiting(random, k, table);
+    lent.places = places.to_vec();
+    let sum = by_library(call, &mut lent).expect("the lengths suffice")[0] as u64;
+    (lent.order[..1 << k].to_vec(), sum)
+}
+
+/// An amount that may be added to entries up to `largest`.
+fn any_amount(random: &mut Random, largest: u32) -> u32 {
+    let room = u64::from(u32::MAX - largest);
+    let most = room.min([0, 7, u64::from(u32::MAX)][random.below(3) as usize]);
+    random.below(most + 1) as u32
+}
+
+/// M-106: 'if the same amount is added to all entries off the diagonal and none passes 4,294,967,295, the returned order is the same and its total grows
+/// by n−1 times the amount', for tours 'n times the amount for n at least 2 and zero for n = 1'; n times the amount that every place costs more. 'raising
+/// any entries never makes the least total smaller'. The diagonal may be anything.
+#[test]
+fn slower_and_raised_tables() {
+    let mut random = seeded("slower and raised tables");
+    for (k, count) in [(0, 100), (1, 500), (2, 2000), (3, 1000), (4, 300), (5, 80), (6, 20)] {
+        let n = 1usize << k;
+        let moves = n as u64 - 1;
+        for _ in 0..count * rounds() {
+            let [table, places] = [0; 2].map(|_| any_table(&mut random, k.into()));
+            let largest = |table: &[u32], diagonal: bool| (0..n * n).filter(|i| diagonal || i / n != i % n).map(|i| table[i]).max().unwrap_or(0);
+            let amount = any_amount(&mut random, largest(&table, false));
+            let each = any_amount(&mut random, largest(&places, true));
+            let slower: Vec<u32> = (0..n * n).map(|i| if i / n == i % n { random.next() as u32 } else { table[i] + amount }).collect();
+            let dearer: Vec<u32> = places.iter().map(|entry| entry + each).collect();
+            let [raised, raised_places] = [&table, &places].map(|table| table.iter().map(|&entry| entry + any_amount(&mut random, entry)).collect::<Vec<u32>>());
+            let tours = if k == 0 { 0 } else { n as u64 };
+            let calls = [(Call::Plan { k }, moves, 0), (Call::Tour { k }, tours, 0), (Call::PlanPlaces { k }, moves, n as u64)];
+            for (call, moves, shares) in calls.into_iter().filter(|&(call, ..)| k <= 5 || !matches!(call, Call::Tour { .. })) {
+                let (order, sum) = found(&mut random, call, k, &table, &places);
+                let grown = sum + moves * u64::from(amount) + shares * u64::from(each);
+                assert_eq!(found(&mut random, call, k, &slower, &dearer), (order, grown), "{call:?}");
+                assert!(sum <= found(&mut random, call, k, &raised, &raised_places).1, "{call:?}");
+            }
         }
     }
 }

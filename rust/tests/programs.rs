@@ -4,7 +4,7 @@ use evidence::{
     cases::{rounds, seeded},
     damage::damage,
     random::Random,
-    reading::{all_orders, clear, come_back, exchange_fork, group_sums, keep, plan_filled, plan_places, tour},
+    reading::{all_orders, clear, come_back, exchange_fork, group_sums, keep, plan, plan_filled, plan_places, tour},
     world::World,
 };
 use std::{
@@ -141,6 +141,56 @@ fn places_that_cost_extra() {
 #[test]
 fn round_trips() {
     planner_lines("tour", 35, due_of_tour);
+}
+
+/// The entry by a rule with hundreds, as the program's heading says what they add; the diagonal of a slower table is 99.
+fn changed_entry(rule: u64, a: u64, b: u64) -> u32 {
+    let entry = planner_entry(rule % 100, a, b);
+    match rule / 100 {
+        0 => entry,
+        1 if a == b => 99,
+        3 if a < b => entry,
+        3 => entry + 5,
+        _ => entry + 7,
+    }
+}
+
+/// The rest of a line of crates/test_planner/stdout that compares two tables, by what stands before its colon: the call, k, the rules of both. Where the
+/// second is slower, the order is the same and the total grows by n - 1 times 7, for a tour by n times 7 or, for n = 1, by nothing; where it is raised, the
+/// total is not smaller.
+fn due_of_two(call: &str) -> String {
+    let numbers: Vec<u64> = call.split([' ', ',']).filter_map(|word| word.parse().ok()).collect();
+    let (k, rules) = match numbers[..] {
+        [k, rule, rule2] => (k as u16, [[rule, 9], [rule2, 9]]),
+        [k, rule, extra, rule2, extra2] => (k as u16, [[rule, extra], [rule2, extra2]]),
+        _ => panic!("{call}"),
+    };
+    let word = call.split(' ').nth(1).expect("a call");
+    let n = 1u64 << k;
+    let [(total, order), (total2, order2)] = rules.map(|rules| {
+        let [table, places] = rules.map(|rule| (0..n * n).map(|i| changed_entry(rule, i / n, i % n)).collect::<Vec<_>>());
+        let (mut order, mut totals, mut pivots) = (vec![0; n as usize], vec![0; 2 * n as usize], vec![0; 2 * n as usize]);
+        let total = match word {
+            "plan" => plan(k, &table, &mut order, &mut totals, &mut pivots),
+            "tour" => tour(k, &table, &mut order, &mut totals, &mut pivots),
+            _ => plan_places(k, &table, &places, &mut order, &mut totals, &mut pivots),
+        };
+        (total.expect("the lengths suffice"), spaced(&order, u16::to_string))
+    });
+    if call.starts_with("slower") {
+        let moves = if word != "tour" { n - 1 } else if n == 1 { 0 } else { n };
+        let [first, second] = [0, 1].map(|i| if rules[1][i] < 100 { 0 } else { 7 });
+        assert_eq!((total2, &order2), (total + moves * first + n * second, &order), "{call}");
+    }
+    assert!(total <= total2, "{call}");
+    format!("total {total} then {total2}, order{order} then{order2}")
+}
+
+/// The planner's program, by slower tables and by raised ones.
+#[test]
+fn slower_and_raised() {
+    planner_lines("slower", 12, due_of_two);
+    planner_lines("raised", 4, due_of_two);
 }
 
 /// The bytes of the path that a function of a file below crates/ puts.

@@ -40,6 +40,12 @@ pub placesTo-same : (k c : ℕ) (x : ℕ → ℕ → ℕ) → ((i p : ℕ) → i
 placesTo-same k c x h o f zero b = omega arith
 placesTo-same k c x h o f (suc m) b = omega (arith, placesTo-same k c x h o f m (omega arith), h (inPlace o m) m (f .small m b) b, suc-mul m c)
 
+-- the same amount d more for every stop and place
+placesTo-more : (k d : ℕ) (x y : ℕ → ℕ → ℕ) → ((i p : ℕ) → i < 2 ^ k → p < 2 ^ k → y i p ≡ x i p + d) → (o : List ℕ) → Meets k o
+    → (m : ℕ) → m ≤ 2 ^ k → placesTo y o m ≡ placesTo x o m + m * d
+placesTo-more k d x y h o f zero b = omega arith
+placesTo-more k d x y h o f (suc m) b = omega (arith, placesTo-more k d x y h o f m (omega arith), h (inPlace o m) m (f .small m b) b, suc-mul m d)
+
 module _ (k : ℕ) (t : ℕ → ℕ → ℕ) where
   module _ (x : ℕ → ℕ → ℕ) where
     -- the graph draws the total with the places
@@ -74,6 +80,17 @@ module _ (k : ℕ) (t : ℕ → ℕ → ℕ) where
       more : (F : ℕ) → every F ≡ true → placedTotal t x (orderOf k F) ≡ total t (orderOf k F) + 2 ^ k * c
       more F y = ap (λ z. total t (orderOf k F) + z)
           (ap (placesTo x (orderOf k F)) (length-orderOf k F) ∙ placesTo-same k c x h (orderOf k F) (forward k F) (2 ^ k) (omega arith))
+
+  -- the same entry d more everywhere: the same order, at n times d more
+  pub placed-more : (d : ℕ) (x y : ℕ → ℕ → ℕ) → ((i p : ℕ) → i < 2 ^ k → p < 2 ^ k → y i p ≡ x i p + d)
+      → (wanted k (placedTotal t y) every ≡ wanted k (placedTotal t x) every)
+      × (placedTotal t y (wanted k (placedTotal t y) every) ≡ placedTotal t x (wanted k (placedTotal t x) every) + 2 ^ k * d)
+  placed-more d x y h = wanted-shift k every (every-settled k) 0 refl (placedTotal t x) (placedTotal t y) (2 ^ k * d) more
+    where
+      more : (F : ℕ) → every F ≡ true → placedTotal t y (orderOf k F) ≡ placedTotal t x (orderOf k F) + 2 ^ k * d
+      more F z =
+          let n = length-orderOf k F in
+          omega (arith, placesTo-more k d x y h (orderOf k F) (forward k F) (2 ^ k) (omega arith), ap (placesTo y (orderOf k F)) n, ap (placesTo x (orderOf k F)) n)
 
   -- 'A second table all zero gives the plain result'
   pub placed-zero : (x : ℕ → ℕ → ℕ) → ((i p : ℕ) → i < 2 ^ k → p < 2 ^ k → x i p ≡ 0)

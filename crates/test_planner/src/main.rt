@@ -1,11 +1,12 @@
 // Runs the planner on known tables and writes a line for each call: k, the table's rule, the lent lengths, the refusal's number or 0, the total and by
 // how many weighings it was found, the whole lent order, and of `totals` and `pivots` how many numbers are 0 and how many are as they were lent. Every lent number is 77.
-// `places` does the same where places cost extra, `tours` for round trips.
+// `places` does the same where places cost extra, `tours` for round trips; `slower` compares two tables.
 
 mod call;
 mod large;
 mod lent;
 mod places;
+mod slower;
 mod table;
 mod tours;
 
@@ -101,4 +102,5 @@ fn main() {
     large::at_ten(5);
     places::run();
     tours::run();
+    slower::run();
 }

@@ -50,11 +50,37 @@ fn entry(rule: u32, a: u32, b: u32) -> u32 {
     }
 }
 
+// An entry with so much more, as far as 32 bits hold it.
+fn raised(entry: u32, more: u32) -> u32 {
+    if 4294967295 - more < entry {
+        entry
+    } else {
+        entry + more
+    }
+}
+
+// An entry with 7 more off the diagonal, and 99 on it.
+fn slower(a: u32, b: u32, entry: u32) -> u32 {
+    if a == b { 99 } else { raised(entry, 7) }
+}
+
+// The entry by a rule, whose hundreds say what is more than by the rule without them: with 100 it is 7 off the diagonal, on which 99 stands, with 200
+// it is 7 everywhere, with 300 it is 5 where the column is not larger than the row.
+fn changed(rule: u32, a: u32, b: u32) -> u32 {
+    let entry = entry(rule % 100, a, b);
+    match rule / 100 {
+        0 => entry,
+        1 => slower(a, b, entry),
+        2 => raised(entry, 7),
+        _ => raised(entry, by_side(a, b, 0, 5)),
+    }
+}
+
 // The table of n rows by a rule.
 pub fn fill(table: &mut [u32], n: usize, rule: u32)
     requires { ⌜ 0 < n ⌝ }
 {
     for i in 0..table.len() {
-        table[i] = entry(rule, (i / n % 1024) as u32, (i % n % 1024) as u32);
+        table[i] = changed(rule, (i / n % 1024) as u32, (i % n % 1024) as u32);
     }
 }
