@@ -44,6 +44,7 @@ pub struct Lent<R: Room> {
     pub order: R::Of<u16>,
     pub totals: R::Of<u64>,
     pub pivots: R::Of<u16>,
+    pub orders: R::Of<u16>,
     pub bits: R::Of<u8>,
     pub list: R::Of<u16>,
     pub empties: R::Of<u8>,
@@ -70,6 +71,7 @@ impl<R: Room> Lent<R> {
             order: room.hold(&self.order),
             totals: room.hold(&self.totals),
             pivots: room.hold(&self.pivots),
+            orders: room.hold(&self.orders),
             bits: room.hold(&self.bits),
             list: room.hold(&self.list),
             empties: room.hold(&self.empties),
@@ -96,6 +98,7 @@ impl<R: Room> Lent<R> {
             ("order", *self.order == *other.order),
             ("totals", *self.totals == *other.totals),
             ("pivots", *self.pivots == *other.pivots),
+            ("orders", *self.orders == *other.orders),
             ("bits", *self.bits == *other.bits),
             ("list", *self.list == *other.list),
             ("empties", *self.empties == *other.empties),
@@ -123,6 +126,7 @@ pub enum Call {
     Tour { k: u16 },
     Foretell { k: u16 },
     PlanPath { highest: u16 },
+    ForkCost { highest: u16, fork: u16, field: u16 },
     PlanFilled { k: u16 },
     ForkBits { k: u16 },
     OrderOfBits { k: u16 },
@@ -201,6 +205,9 @@ macro_rules! made_to {
             Call::PlanPath { highest } => {
                 $module::plan_path(&$l.bytes, highest, &mut $l.table, &mut $l.order, &mut $l.totals, &mut $l.pivots)
                     .map(|(version, k, total)| vec![version.into(), k.into(), one(total)[0]])
+            }
+            Call::ForkCost { highest, fork, field } => {
+                $module::fork_cost(&$l.bytes, highest, fork, &mut $l.totals, &mut $l.pivots, &mut $l.orders, field).map(one)
             }
             Call::PlanFilled { k } => {
                 $module::plan_filled(k, &$l.table, &$l.empties, &mut $l.list, &mut $l.bits, &mut $l.work)

@@ -101,7 +101,7 @@ fn another_length<T: Copy + Default>(random: &mut Random, needed: usize, numbers
 /// One lent buffer of another length.
 fn spoil_length(random: &mut Random, lent: &mut Lent<Heap>) {
     let n = lent.table.len().isqrt();
-    match random.below(17) {
+    match random.below(18) {
         0 => another_length(random, 3 * n, &mut lent.coords),
         1 => another_length(random, n, &mut lent.speeds),
         2 => another_length(random, n, &mut lent.blends),
@@ -118,13 +118,16 @@ fn spoil_length(random: &mut Random, lent: &mut Lent<Heap>) {
         13 => another_length(random, 8 * n, &mut lent.stops),
         14 => another_length(random, 8 * n, &mut lent.kept),
         15 => another_length(random, n * n, &mut lent.places),
+        16 => another_length(random, 2 * n, &mut lent.orders),
         _ => another_length(random, n.div_ceil(8), &mut lent.bits),
     }
 }
 
-/// Another number beside the buffers.
-fn spoil_number(random: &mut Random, call: &mut Call) {
+/// Another number beside the buffers of a call for n stops.
+fn spoil_number(random: &mut Random, call: &mut Call, n: u16) {
     let other = one_of(random, &EDGES);
+    // of the forks those beside 1 to n − 1, half of the times
+    let no_fork = one_of(random, &[0, n, n + 1, 65_535, other, other, other, other]);
     match call {
         Call::ReadPath { highest } | Call::PlanPath { highest } | Call::CellPlan { highest } | Call::CellCheck { highest } => *highest = other,
         Call::Draw { highest, d } => {
@@ -137,7 +140,18 @@ fn spoil_number(random: &mut Random, call: &mut Call) {
         Call::GroupSums { highest } => *highest = other,
         Call::Clear => (),
         Call::Keep { highest, name } | Call::ComeBack { highest, name } => *(if random.below(2) == 0 { highest } else { name }) = other,
-        Call::ExchangeFork { highest, fork } => *(if random.below(2) == 0 { highest } else { fork }) = other,
+        Call::ExchangeFork { highest, fork } => {
+            if random.below(2) == 0 {
+                *highest = other;
+            } else {
+                *fork = no_fork;
+            }
+        }
+        Call::ForkCost { highest, fork, field } => match random.below(4) {
+            0 => *highest = other,
+            1 => *field = other,
+            _ => *fork = no_fork,
+        },
         Call::CellRewrite { highest, version } => *(if random.below(2) == 0 { highest } else { version }) = other,
         Call::WritePath { version, k } | Call::TableFrom { version, k } => *(if random.below(2) == 0 { version } else { k }) = other,
         Call::Plan { k } | Call::PlanWeighings { k } | Call::PlanPlaces { k } | Call::Tour { k } | Call::Foretell { k } => *k = other,
@@ -187,13 +201,13 @@ fn spoil_content(random: &mut Random, lent: &mut Lent<Heap>) {
 pub fn spoil(random: &mut Random, call: &mut Call, lent: &mut Lent<Heap>) {
     let reads_path = matches!(
         call,
-        Call::ReadPath { .. } | Call::TableFrom { .. } | Call::PlanPath { .. } | Call::Draw { .. } | Call::CellPlan { .. } | Call::CellCheck { .. } | Call::CellRewrite { .. }
+        Call::ReadPath { .. } | Call::TableFrom { .. } | Call::PlanPath { .. } | Call::ForkCost { .. } | Call::Draw { .. } | Call::CellPlan { .. } | Call::CellCheck { .. } | Call::CellRewrite { .. }
     );
     // the screen's records are spoiled as often as the path
     let reads_path = reads_path || call.of_the_screen() && random.below(2) == 0;
     let reads_file = matches!(call, Call::ReadOrderFile { .. } | Call::CellCheck { .. });
     match random.below(8) {
-        0 => spoil_number(random, call),
+        0 => spoil_number(random, call, lent.table.len().isqrt() as u16),
         1 => spoil_length(random, lent),
         2 => {
             let needed = lent.out.len().saturating_sub(place(random, 4));

@@ -49,6 +49,10 @@ mod declared {
             bytes: *const u8, bytes_len: usize, highest: u16, table: *mut u32, table_len: usize,
             order: *mut u16, order_len: usize, totals: *mut u64, totals_len: usize, pivots: *mut u16, pivots_len: usize,
         ) -> i64;
+        pub fn ffi_fork_cost(
+            bytes: *const u8, bytes_len: usize, highest: u16, fork: u16,
+            totals: *mut u64, totals_len: usize, pivots: *mut u16, pivots_len: usize, orders: *mut u16, orders_len: usize, field: u16,
+        ) -> i64;
         pub fn ffi_plan_filled(
             k: u16, table: *const u32, table_len: usize, empties: *const u8, empties_len: usize,
             list: *mut u16, list_len: usize, bits: *mut u8, bits_len: usize, work: *mut u64, work_len: usize,
@@ -221,6 +225,21 @@ pub fn plan_path(
         )
     };
     answer(result).map(unpacked).map(|(total, version, k)| (version, k, total))
+}
+
+/// `fork_cost::fork_cost`: one field of what it tells: 0 the state, 1 the least total of the opposite state, 2 the difference, 3 the place of a tie and 1 more or 0.
+#[rustfmt::skip]
+pub fn fork_cost(
+    bytes: &[u8], highest: u16, fork: u16, totals: &mut [u64], pivots: &mut [u16], orders: &mut [u16], field: u16,
+) -> Result<u64, u16> {
+    let (totals_len, pivots_len, orders_len) = (totals.len(), pivots.len(), orders.len());
+    let (totals, pivots, orders) = (totals.as_mut_ptr(), pivots.as_mut_ptr(), orders.as_mut_ptr());
+    let result = unsafe {
+        declared::ffi_fork_cost(
+            bytes.as_ptr(), bytes.len(), highest, fork, totals, totals_len, pivots, pivots_len, orders, orders_len, field,
+        )
+    };
+    answer(result)
 }
 
 /// `filled::plan_filled`: the total and the list's length, out of one number.

@@ -214,7 +214,7 @@ impl Step for Slices {
 
 /// The smaller of two totals with its stop; of equals the one that was held.
 #[inline(always)]
-fn keep(held: (u64, usize), total: u64, stop: usize) -> (u64, usize) {
+pub(crate) fn keep(held: (u64, usize), total: u64, stop: usize) -> (u64, usize) {
     if total < held.0 {
         (total, stop)
     } else {

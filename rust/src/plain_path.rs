@@ -134,7 +134,7 @@ pub struct Chunks;
 
 /// The stop of a record of SIZE bytes: 18 in version 4, 20 in version 5, 22 in version 6.
 #[inline(always)]
-fn stop_in<const SIZE: usize>(record: &[u8; SIZE]) -> Stop {
+pub(crate) fn stop_in<const SIZE: usize>(record: &[u8; SIZE]) -> Stop {
     stop(&record[4..], 4 + (SIZE as u16 - 18) / 2)
 }
 

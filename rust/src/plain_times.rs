@@ -7,7 +7,7 @@ use crate::{
 
 /// The time of a move in milliseconds, to the nearest one, an exact half to the even one, of the way that the blend leaves, and then the dwell.
 #[inline(always)]
-fn time(from: [i32; 3], to: [i32; 3], speed: u16, blend: u16, dwell: u16) -> u32 {
+pub(crate) fn time(from: [i32; 3], to: [i32; 3], speed: u16, blend: u16, dwell: u16) -> u32 {
     let distance = from[0].abs_diff(to[0]).max(from[1].abs_diff(to[1])).max(from[2].abs_diff(to[2]));
     let counted = distance - u32::from(blend).min(distance / 2);
     let (way, speed) = (100 * counted, u32::from(speed));

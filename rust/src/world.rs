@@ -60,6 +60,7 @@ pub fn planner_lent(random: &mut Random, table: &[u32], order: usize, totals: us
         order: (0..order).map(|_| random.next() as u16).collect(),
         totals: (0..totals).map(|_| random.next()).collect(),
         pivots: (0..pivots).map(|_| random.next() as u16).collect(),
+        orders: vec![],
         bits: vec![],
         list: vec![],
         empties: vec![],
@@ -127,13 +128,14 @@ impl World {
     }
 
     /// Each call once, with numbers that suit this world.
-    pub fn calls(&self, random: &mut Random) -> [Call; 26] {
+    pub fn calls(&self, random: &mut Random) -> [Call; 27] {
         let k = self.k;
         let highest = self.version + random.below(u64::from(7 - self.version)) as u16;
         let version = 4 + random.below(3) as u16;
         let d = random.below((1 << k) + 3) as usize;
         let fork = 1 + random.below(((1 << k) - 1).max(1)) as u16;
         let name = 1 + random.below(8) as u16;
+        let field = random.below(4) as u16;
         [
             Call::ReadPath { highest },
             Call::WritePath { version, k },
@@ -145,6 +147,7 @@ impl World {
             Call::Tour { k },
             Call::Foretell { k },
             Call::PlanPath { highest },
+            Call::ForkCost { highest, fork, field },
             Call::PlanFilled { k },
             Call::ForkBits { k },
             Call::OrderOfBits { k },
@@ -184,6 +187,7 @@ impl World {
             order: pattern(random, n, |x| x as u16),
             totals: pattern(random, 2 * n, |x| x),
             pivots: pattern(random, 2 * n, |x| x as u16),
+            orders: pattern(random, 2 * n, |x| x as u16),
             bits: pattern(random, n.div_ceil(8), |x| x as u8),
             list: pattern(random, n, |x| x as u16),
             empties: pattern(random, n, |x| x as u8),

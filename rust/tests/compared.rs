@@ -66,6 +66,7 @@ fn every_call_with_faults() {
     assert_eq!(seen.numbers("Keep"), [0, 1, 2, 3, 4, 5, 6, 7, 8, 9, 10, 11, 15]);
     assert_eq!(seen.numbers("ComeBack"), [0, 1, 2, 3, 4, 5, 6, 7, 8, 9, 10, 11, 15, 16]);
     assert_eq!(seen.numbers("Clear"), [0, 8]);
+    assert_eq!(seen.numbers("ForkCost"), [0, 1, 2, 3, 4, 5, 6, 7, 8, 14]);
     assert_eq!(seen.numbers("PlanFilled"), [0, 5, 6, 8]);
     assert_eq!(seen.numbers("ReadOrderFile"), [0, 1, 2, 3, 5, 7, 8, 9, 10, 11, 12]);
 }
@@ -90,6 +91,9 @@ fn path_calls(k: u16, highest: u16) -> Vec<Call> {
     let mut calls = vec![
         Call::ReadPath { highest },
         Call::PlanPath { highest },
+        Call::ForkCost { highest, fork: 1, field: 1 },
+        Call::ForkCost { highest, fork: 1 << k, field: 3 },
+        Call::ForkCost { highest, fork: 0, field: 4 },
         Call::GroupSums { highest },
         Call::ExchangeFork { highest, fork: 1 },
         Call::Keep { highest, name: 8 },
@@ -203,6 +207,11 @@ fn with_number(call: Call, number: u16) -> Vec<Call> {
         Call::Tour { .. } => vec![Call::Tour { k: number }],
         Call::Foretell { .. } => vec![Call::Foretell { k: number }],
         Call::PlanPath { .. } => vec![Call::PlanPath { highest: number }],
+        Call::ForkCost { highest, fork, field } => vec![
+            Call::ForkCost { highest: number, fork, field },
+            Call::ForkCost { highest, fork: number, field },
+            Call::ForkCost { highest, fork, field: number },
+        ],
         Call::PlanFilled { .. } => vec![Call::PlanFilled { k: number }],
         Call::ForkBits { .. } => vec![Call::ForkBits { k: number }],
         Call::OrderOfBits { .. } => vec![Call::OrderOfBits { k: number }],
@@ -226,7 +235,7 @@ fn with_number(call: Call, number: u16) -> Vec<Call> {
     }
 }
 
-/// Every number of 16 bits as k, as the highest known version, as the version to be written, as a fork and as a name.
+/// Every number of 16 bits as k, as the highest known version, as the version to be written, as a fork, as a field and as a name.
 #[test]
 fn every_number() {
     let mut random = seeded("numbers");
@@ -268,6 +277,7 @@ fn every_length() {
             shortened(|lent, length| cut(&mut lent.order, length));
             shortened(|lent, length| cut(&mut lent.totals, length));
             shortened(|lent, length| cut(&mut lent.pivots, length));
+            shortened(|lent, length| cut(&mut lent.orders, length));
             shortened(|lent, length| cut(&mut lent.bits, length));
             shortened(|lent, length| cut(&mut lent.list, length));
             shortened(|lent, length| cut(&mut lent.empties, length));

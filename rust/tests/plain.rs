@@ -6,6 +6,7 @@ use evidence::{
     cases::{rounds, seeded},
     plain::{self, Checked, Columns, Pairs, Rows, Slices},
     plain_filled::{self, One, Two},
+    plain_fork,
     plain_jobs,
     plain_path::{self, Chunks, Indices},
     plain_screen,
@@ -71,6 +72,10 @@ fn by_plain(call: Call) -> Vec<Plain> {
             Box::new(move |l| plain::tour::<Rows<Checked>>(k, &l.table, &mut l.order, &mut l.totals, &mut l.pivots).map(one)),
             Box::new(move |l| plain::tour::<Slices>(k, &l.table, &mut l.order, &mut l.totals, &mut l.pivots).map(one)),
             Box::new(move |l| plain::tour::<Pairs<Checked>>(k, &l.table, &mut l.order, &mut l.totals, &mut l.pivots).map(one)),
+        ],
+        Call::ForkCost { highest, fork, field } => vec![
+            Box::new(move |l| plain_fork::fork_cost::<Indices>(&l.bytes, highest, fork, &mut l.totals, &mut l.pivots, &mut l.orders, field).map(one)),
+            Box::new(move |l| plain_fork::fork_cost::<Chunks>(&l.bytes, highest, fork, &mut l.totals, &mut l.pivots, &mut l.orders, field).map(one)),
         ],
         Call::PlanFilled { k } => vec![
             Box::new(move |l| plain_filled::plan_filled::<One>(k, &l.table, &l.empties, &mut l.list, &mut l.bits, &mut l.work).map(listed)),

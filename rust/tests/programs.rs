@@ -4,7 +4,7 @@ use evidence::{
     cases::{rounds, seeded},
     damage::damage,
     random::Random,
-    reading::{all_orders, clear, come_back, exchange_fork, group_sums, keep, plan, plan_filled, plan_places, tour},
+    reading::{all_orders, clear, come_back, exchange_fork, fork_cost, group_sums, keep, plan, plan_filled, plan_places, tour},
     world::World,
 };
 use std::{
@@ -253,6 +253,101 @@ fn sessions_of_the_screen() {
     let due: Vec<String> = cases.map(|(name, words)| name.to_owned() + &session.due(&words.split(' ').collect::<Vec<_>>())).collect();
     assert_eq!(text("test_screen/stdout").lines().collect::<Vec<_>>(), due);
     assert!(due.len() > 100);
+}
+
+/// What the program of crates/test_fork_cost lends: work space that holds 77.
+struct Work {
+    totals: Vec<u64>,
+    pivots: Vec<u16>,
+    orders: Vec<u16>,
+}
+
+impl Work {
+    /// One number more than 2n of the totals, two of the pivots, three of the orders.
+    fn of(n: usize) -> Work {
+        Work { totals: vec![77; 2 * n + 1], pivots: vec![77; 2 * n + 2], orders: vec![77; 2 * n + 3] }
+    }
+
+    /// What is told of a fork, in the words of src/words.rt, with so many numbers of each lent.
+    fn told(&mut self, bytes: &[u8], highest: u16, fork: u16, lent: [usize; 3]) -> String {
+        let mut fields = [0; 4];
+        for (field, value) in (0..).zip(&mut fields) {
+            let (totals, pivots, orders) = (&mut self.totals[..lent[0]], &mut self.pivots[..lent[1]], &mut self.orders[..lent[2]]);
+            match fork_cost(bytes, highest, fork, totals, pivots, orders, field) {
+                Ok(given) => *value = given,
+                Err(number) => return format!(": refused, {number}"),
+            }
+        }
+        let [state, total, more, place] = fields;
+        let state = if state == 0 { "not exchanged" } else { "exchanged" };
+        let reason = if place == 0 { ": dearer".to_owned() } else { format!("; a tie, lost at place {}", place - 1) };
+        format!(": {state}; the other way takes {total} ms at least, {more} more{reason}")
+    }
+
+    /// All that there is of each.
+    fn all(&self) -> [usize; 3] {
+        [self.totals.len(), self.pivots.len(), self.orders.len()]
+    }
+
+    /// How many numbers of each are 0, and how many as they were lent.
+    fn counts(&self) -> String {
+        let count = |value: u16| {
+            let totals = self.totals.iter().filter(|&&total| total == u64::from(value)).count();
+            let [pivots, orders] = [&self.pivots, &self.orders].map(|numbers| numbers.iter().filter(|&&number| number == value).count());
+            format!("{totals} {pivots} {orders}")
+        };
+        format!("0 in {}, 77 in {}", count(0), count(77))
+    }
+}
+
+/// The path of src/large.rt.
+fn path_of_ten() -> Vec<u8> {
+    let mut fields = vec![6, 1, 6, 10];
+    for i in 0..1024u16 {
+        fields.extend([20, 2, u32::from(i) * 37 % 31 * 10, 0, 0, 0, 0, 0, 1000 + u32::from(i) % 2 * 1000, 10, u32::from(i) % 4]);
+    }
+    fields.extend([2, 3]);
+    fields.into_iter().flat_map(|field| (field as u16).to_le_bytes()).collect()
+}
+
+/// The lines of a case of crates/test_fork_cost. `words` are what src/cases.rt and src/large.rt say of each.
+fn lines_of_forks(name: &str, words: &[&str]) -> Vec<String> {
+    let number = |i: usize| words[i].parse::<usize>().expect("a number");
+    let path = |word: usize| {
+        let mut bytes = path_of("test_fork_cost/src/paths.rt", words[word]);
+        bytes.resize(189, 0);
+        bytes
+    };
+    let mut work = Work::of(if words[0] == "ten" { 1024 } else { 8 });
+    let told = match words[0] {
+        "every" => {
+            let mut lines = vec![name.to_owned()];
+            lines.extend((1..=number(3) as u16).map(|fork| format!("fork {fork}{}", work.told(&path(1)[..number(2)], 6, fork, work.all()))));
+            lines.push(format!("work space: {}", work.counts()));
+            return lines;
+        }
+        "fork" => {
+            let mut bytes = path(2);
+            let changes = u64::from_str_radix(words[3], 16).expect("places and bytes");
+            for change in [48, 32, 16, 0].map(|low| (changes >> low) as u16).into_iter().filter(|&change| change != 0) {
+                bytes[usize::from(change >> 8)] = change as u8;
+            }
+            work.told(&bytes[..number(4)], number(5) as u16, number(1) as u16, [number(6), number(7), number(8)])
+        }
+        "ten" => work.told(&path_of_ten(), 6, number(1) as u16, work.all()),
+        word => panic!("{word}"),
+    };
+    vec![format!("{name}{told}; {}", work.counts())]
+}
+
+/// What forks cost the other way, case by case.
+#[test]
+fn forks_the_other_way() {
+    let cases = text("test_fork_cost/stdin");
+    let cases = cases.lines().filter_map(|line| line.split_once(": "));
+    let due: Vec<String> = cases.flat_map(|(name, words)| lines_of_forks(name, &words.split(' ').collect::<Vec<_>>())).collect();
+    assert_eq!(text("test_fork_cost/stdout").lines().collect::<Vec<_>>(), due);
+    assert!(due.len() > 80);
 }
 
 /// A file of the repository.

@@ -12,6 +12,7 @@ use Rattle.planner.specs.Weighings.{Needed}
 use Rattle.planner.specs.Plan.{Reported}
 use Rattle.path_plan.specs.PathPlan.{Planned}
 use Rattle.reader.specs.Draws.{aStop, theEnd}
+use Rattle.fork_cost.specs.Cost.{Reason, Cost, dearer, tie}
 use Rattle.signed.specs.Result.{atMost}
 
 -- a call that gives nothing beside the lent buffers: 0
@@ -79,6 +80,37 @@ listed total length = atMost mostListed total * lengthUnit + atMost mostLength l
 -- of a list that was planned
 abbrev pub listValue : ℕ × ℕ → ℕ
 listValue p = listed (p .0) (p .1)
+
+-- ---- what a fork costs the other way, field by field
+
+-- 0 is the fork's state, 1 the least total the other way, 2 how much more that is, 3 the place of a tie and 1 more, or 0 for dearer; any other is 0
+abbrev pub stateField : ℕ
+stateField = 0
+
+abbrev pub oppositeField : ℕ
+oppositeField = 1
+
+abbrev pub moreField : ℕ
+moreField = 2
+
+abbrev pub reasonField : ℕ
+reasonField = 3
+
+-- the reason as one number: a place is counted from 0, so that of a tie is above 0
+unfoldable pub reasonNumber : Reason → ℕ
+reasonNumber dearer = 0
+reasonNumber (tie place) = place + 1
+
+unfoldable pub costPart : (field state total more reason : ℕ) → ℕ
+costPart field state total more reason =
+    cond (eqb field stateField) state
+    (cond (eqb field oppositeField) total
+    (cond (eqb field moreField) more
+    (cond (eqb field reasonField) reason
+    0)))
+
+abbrev pub costField : (field : ℕ) → Cost → ℕ
+costField field c = costPart field (c .state) (c .total) (c .more) (reasonNumber (c .reason))
 
 -- ---- draws
 

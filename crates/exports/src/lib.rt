@@ -5,11 +5,13 @@
 mod packed;
 
 use filled::ListPlanned;
+use fork_cost::ForkCost;
 use order_file::FileRead;
 use order_file::FileWritten;
 use orders::BitsMade;
 use orders::OrderMade;
 use orders::OrderTotal;
+use packed::cost_part;
 use packed::pack;
 use packed::pack_list;
 use packed::stop_field;
@@ -35,6 +37,7 @@ ghost use Rattle.planner.specs.Places.{PlansPlaces, orderSaid};
 ghost use Rattle.planner.specs.Tour.{PlansTour};
 ghost use Rattle.path_plan.specs.PathPlan.{PlansPath, said as pathPlanned};
 ghost use Rattle.filled.specs.Filled.{PlansList, said as listPlanned};
+ghost use Rattle.fork_cost.specs.Cost.{GivesCost, said as costSaid};
 ghost use Rattle.screen.specs.Screen.{MakesSums, ExchangesFork, said as recordsMade};
 ghost use Rattle.named.specs.Calls.{KeepsOrder, ComesBack, ClearsMarks};
 ghost use Rattle.orders.specs.ForkBits.{MakesBits, said as bitsMade};
@@ -46,7 +49,7 @@ ghost use Rattle.order_file.specs.Read.{ReadsFile, said as fileRead};
 ghost use Rattle.reader.specs.Draws.{drawAnswer};
 ghost use Rattle.signed.specs.Result.{signed};
 ghost use Rattle.exports.specs.Exported.{Exported};
-ghost use Rattle.exports.specs.Values.{nothing, itself, totalOf, weighingsOf, bytesNeeded, weighingsNeeded, heading, planned, listValue, verdict, fieldOf};
+ghost use Rattle.exports.specs.Values.{nothing, itself, totalOf, weighingsOf, bytesNeeded, weighingsNeeded, heading, planned, listValue, costField, verdict, fieldOf};
 
 // `path::read_path`: version and k in one number.
 #[no_mangle]
@@ -262,6 +265,32 @@ pub extern "C" fn ffi_plan_filled(
     match answer {
         ListPlanned::Done(total, length) => value(pack_list(total, length)),
         ListPlanned::Refused(number) => refusal(number),
+    }
+}
+
+// `fork_cost::fork_cost`: a field of what it tells: 0 is the fork's state, 1 for exchanged; 1 the least total the other way; 2 how much more that is than the
+// returned order's; 3 the place of a tie and 1 more, or 0 for dearer. Any other field is 0.
+#[no_mangle]
+pub extern "C" fn ffi_fork_cost(
+    bytes: &[u8],
+    highest: u16,
+    fork: u16,
+    totals: &mut [u64],
+    pivots: &mut [u16],
+    orders: &mut [u16],
+    field: u16,
+) -> i64
+    ensures { λ r. ⌜ Exported (GivesCost bytes highest fork totals pivots orders) (λ a. signed (costField field) (costSaid a)) r ⌝ }
+{
+    let answer = fork_cost::fork_cost(bytes, highest, fork, totals, pivots, orders);
+    match answer {
+        ForkCost::Dearer { state, total, more } => value(cost_part(field, state, total, more, 0)),
+        ForkCost::Tie {
+            state,
+            total,
+            place,
+        } => value(cost_part(field, state, total, 0, place as u64 + 1)),
+        ForkCost::Refused(number) => refusal(number),
     }
 }
 

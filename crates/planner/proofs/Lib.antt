@@ -26,6 +26,9 @@ pub mod Places
 pub mod ByTable
 -- What holds of calls where places cost extra.
 pub mod PlacesCalls
+-- A fork that is held.
+pub mod HeldForks
+pub mod HeldJudged
 -- Tours.
 pub mod Tours
 pub mod TourCalls

@@ -3,7 +3,6 @@
 use mathlib.Core.Path.{_≡_, refl, sym, ap, ap₂, subst, fun-ext, _∙_}
 use mathlib.Core.Bool.{Bool, true, false, cond}
 use mathlib.Core.List.{List, [], _∷_}
-use mathlib.Core.Logic.{inl}
 use Prim.Native.Nat.{ℕ, zero, suc, _+_, _*_, _-_, _^_, _≤_, _<_}
 use native.Mathlib.Numerals.{add-one}
 use native.Mathlib.Omega.{arith}
@@ -15,7 +14,6 @@ use Rattle.base.proofs.Size.{pow-le-1024}
 use Rattle.walks.specs.Best.{at, scan, best}
 use Rattle.walks.specs.Places.{stopsTo}
 use Rattle.walks.specs.Rows.{turn, line, Codes}
-use Rattle.tree.specs.Layers.{layers, anywhere}
 use Rattle.tree.specs.Neighbour.{inPlace}
 use Rattle.tree.specs.Total.{entry}
 use Rattle.tree.specs.Wanted.{backward, wanted, every}
@@ -32,16 +30,17 @@ use Rattle.rows.specs.Costing.{Costing}
 use Rattle.rows.specs.Source.{Sources, costsOf, Readable}
 use Rattle.rows.specs.Row.{unreached, TwoRows}
 use Rattle.rows.specs.Pass.{PassReady, PassMade}
-use Rattle.rows.proofs.Table.{entry-none}
+use Rattle.times.proofs.InPath.{time-nowhere}
+use Rattle.rows.proofs.Table.{stops-of, entry-none, fits-of, fits-all, start-of, weight-of, readable-table}
 use Rattle.planner.specs.declared.halve.Choice.{Choice}
 use Rattle.planner.specs.Method.{allWalks, LentSizes, HoldsStops, LastReached, BlockSolved}
 use Rattle.planner.specs.Tour.{TourSizes, toursTo, EndWeighed, EndHeld, TourWritten}
 use Rattle.planner.proofs.Halving.{whole-block}
-use Rattle.planner.proofs.ByTable.{walks-layers}
+use Rattle.planner.proofs.ByTable.{walks-layers, layers-same}
 
 -- the costs of tours that end with stop e
 abbrev pub closing : ℕ → ℕ → Costs
-closing n e = record { n = n; closing = e }
+closing n e = record { n = n; by = 0; closing = e; version = 0; fork = 0; level = 0; state = 0 }
 
 -- at most 1,024 stops, and at least one
 pub tour-few : {n k l : ℕ} → TourSizes n k l → n ≤ 1024
@@ -50,25 +49,30 @@ tour-few {k = k} s = rw (s .stops) (pow-le-1024 k (s .small))
 pub tour-pos : {n k l : ℕ} → TourSizes n k l → 0 < n
 tour-pos {k = k} s = rw (s .stops) (pow-pos k)
 
-module _ (n k : ℕ) (s : Sources) (sizes : TourSizes n k (length (s .table))) (none : length (s .places) ≡ 0) where
+-- a table alone is lent
+pub record Bare (s : Sources) : Type 0 where
+  pub flat : length (s .places) ≡ 0
+  pub alone : length (s .path) ≡ 0
+
+module _ (n k : ℕ) (s : Sources) (sizes : TourSizes n k (length (s .table))) (none : Bare s) where
   -- the slices suffice
   pub tour-readable : (e : ℕ) → Readable (closing n e) s
-  tour-readable e = record { small = tour-few sizes; square = sizes .square; extra = inl none }
+  tour-readable e = readable-table (tour-few sizes) refl (record { square = sizes .square; extra = none .flat; alone = none .alone; free = refl })
 
   -- the walks are those of the tours
   pub tour-walks : (e : ℕ) → allWalks (costsOf (closing n e) s) ≡ toursTo n k (s .table) e
-  unfolding costsOf home
-  tour-walks e = walks-layers (costsOf (closing n e) s) k (sizes .stops) ∙ by k (sizes .some)
+  unfolding home
+  tour-walks e = walks-layers (costsOf (closing n e) s) k (stops-of (closing n e) s ∙ sizes .stops) ∙ layers-same k (λ p i. fits-of (closing n e) s p i ∙ fits-all (closing n e) p i refl) (start k (sizes .some)) weight
     where
+      begins : (m : ℕ) → 0 < m → (i : ℕ) → entry n (s .table) e i ≡ home m (entry n (s .table)) e i
+      begins zero h i = absurd (omega arith)
+      begins (suc m) h i = refl
+
       start : (m : ℕ) → 0 < m → (i : ℕ) → costsOf (closing n e) s .start i ≡ home m (entry n (s .table)) e i
-      start zero h i = absurd (omega arith)
-      start (suc m) h i = omega (arith, entry-none n i 0 (s .places) none)
+      start m h i = start-of (closing n e) s i ∙ omega (arith, entry-none n i 0 (s .places) (none .flat), begins m h i)
 
       weight : (p j i : ℕ) → costsOf (closing n e) s .weight p j i ≡ entry n (s .table) j i
-      weight p j i = omega (arith, entry-none n i p (s .places) none)
-
-      by : (m : ℕ) → 0 < m → layers k (costsOf (closing n e) s .fits) (costsOf (closing n e) s .start) (costsOf (closing n e) s .weight) ≡ layers k anywhere (home m (entry n (s .table)) e) (λ p. entry n (s .table))
-      by m h = ap₂ (layers k anywhere) (fun-ext (start m h)) (fun-ext (λ p. fun-ext (λ j. fun-ext (weight p j))))
+      weight p j i = weight-of (closing n e) s p j i ∙ omega (arith, entry-none n i p (s .places) (none .flat), time-nowhere 0 (s .path) (none .alone) j i)
 
   -- a pass over all places is asked for rightly
   pub tour-ready : (e totals pivots : ℕ) → totals ≡ n + n → pivots ≡ n + n → PassReady (closing n e) s totals pivots 0 0 0 k
@@ -120,7 +124,7 @@ held-end {n} {k} {l} {table} {held} z h =
     tour-end k (entry n table) unreached (2 ^ (k - 1) - 1) (held .total) (held .stop)
     (subst (λ m. Codes unreached (held .total) (held .stop) (bestEnd (toursTo n k table) (2 ^ (k - 1) - 1) (2 ^ k - 1) m)) (z .stops) (h .codes))
 
-module _ (n k : ℕ) (s : Sources) (sizes : TourSizes n k (length (s .table))) (none : length (s .places) ≡ 0) (held : Choice) (h : EndHeld n k (s .table) n held) where
+module _ (n k : ℕ) (s : Sources) (sizes : TourSizes n k (length (s .table))) (none : Bare s) (held : Choice) (h : EndHeld n k (s .table) n held) where
   -- the best walk to that stop, in the last place of an order
   tour-found : (o : List ℕ) → length o ≡ n
       → best (allWalks (costsOf (closing n (held .stop)) s)) (2 ^ k - 1) (inPlace (set o (n - 1) (held .stop)) (0 + 2 ^ k - 1)) ≡ at (held .total) (held-end sizes h .rest)

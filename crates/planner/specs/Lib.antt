@@ -4,3 +4,4 @@ pub mod Weighings
 pub mod Plan
 pub mod Places
 pub mod Tour
+pub mod HeldFork

@@ -1,8 +1,7 @@
-// Lent numbers: a stop as an index, 2^m, and buffers that are set to 0.
+// A stop as an index, and 2^m.
 
 ghost use mathlib.Core.Path.{_≡_};
 ghost use Prim.Native.Nat.{_^_, _≤_};
-ghost use lib.ListN.{length, replicate};
 
 // A stop's number as an index.
 pub fn index(stop: u16) -> usize
@@ -17,22 +16,4 @@ pub fn two_to(m: u32) -> usize
     ensures { λ r. ⌜ r ≡ 2 ^ m ⌝ }
 {
     1usize << m
-}
-
-// Sets every total to 0.
-pub fn zero_totals(totals: &mut [u64])
-    ensures { λ _. ⌜ now (totals .exit) ≡ replicate (length (now (totals .entry))) 0 ⌝ }
-{
-    for i in 0..totals.len() {
-        totals[i] = 0;
-    }
-}
-
-// Writes stop 0 everywhere.
-pub fn zero_stops(stops: &mut [u16])
-    ensures { λ _. ⌜ now (stops .exit) ≡ replicate (length (now (stops .entry))) 0 ⌝ }
-{
-    for i in 0..stops.len() {
-        stops[i] = 0;
-    }
 }

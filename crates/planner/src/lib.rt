@@ -3,17 +3,22 @@
 // No public function has a `requires`. The contract of `plan` cites `specs/Plan.antt` and, through it, the order that is wanted by
 // plain enumeration. The private module `halve` holds the method, halving the places by recursion, for any costs by place; the rows of best
 // totals are made by the crate `rows`. `plan` is the instance whose costs come from a table.
+mod clear;
 mod halve;
+mod held_fork;
 mod lent;
 mod round;
 
+pub use clear::zero_stops;
 ghost use mathlib.Core.Path.{_≡_};
-ghost use Prim.Native.Nat.{_≤_};
+ghost use Prim.Native.Nat.{ℕ, _≤_};
+ghost use Rattle.base.specs.Buffer.{atEntry};
 ghost use Rattle.base.specs.Outcome.{number};
 ghost use Rattle.planner.specs.Weighings.{foretoldWeighings, foretold, foresaid};
 ghost use Rattle.planner.specs.Plan.{planRoom, PlansOrder};
 ghost use Rattle.planner.specs.Places.{placesRoom, PlansPlaces};
 ghost use Rattle.planner.specs.Tour.{tourRoom, PlansTour};
+ghost use Rattle.planner.specs.HeldFork.{planHeld, PlansHeld};
 
 // Tours are for k up to this.
 const MAX_TOUR_K: u16 = 7;
@@ -77,7 +82,15 @@ pub fn plan(
     let n = base::stop_count(k);
     let none = [0u8; 1];
     let solved = halve::run(
-        rows::Costs { n, closing: n },
+        rows::Costs {
+            n,
+            by: rows::BY_TABLE,
+            closing: n,
+            version: 0,
+            fork: 0,
+            level: 0,
+            state: 0,
+        },
         table,
         &table[..0],
         &none[..0],
@@ -140,7 +153,15 @@ pub fn plan_places(
     let n = base::stop_count(k);
     let none = [0u8; 1];
     let solved = halve::run(
-        rows::Costs { n, closing: n },
+        rows::Costs {
+            n,
+            by: rows::BY_PLACES,
+            closing: n,
+            version: 0,
+            fork: 0,
+            level: 0,
+            state: 0,
+        },
         table,
         places,
         &none[..0],
@@ -186,6 +207,85 @@ pub fn tour(
         k as u32,
     );
     Ordered::Done(total)
+}
+
+// 0, or the number of the refusal of planning by path bytes: as above, then the stops and the end, and 14 for a fork that is not below n.
+fn judge_held(
+    bytes: &[u8],
+    version: u16,
+    k: u16,
+    fork: u16,
+    order: usize,
+    totals: usize,
+    pivots: usize,
+) -> u16
+    ensures { λ r. ⌜ ((state : ℕ) → r ≡ number (planHeld (atEntry bytes) version k fork state order totals pivots)) ⌝ }
+{
+    let n = base::stop_count(k);
+    let refused = judge_lengths(k, n * n, order, totals, pivots);
+    if refused != 0 {
+        return refused;
+    }
+    let body = path::judge_body(bytes, version, k);
+    if body != 0 {
+        return body;
+    }
+    if n <= fork as usize {
+        return base::NO_SUCH_FORK;
+    }
+    0
+}
+
+// M-101: as `plan`, by the times between the stops of path bytes, whose head gave `version` and `k`, and among the orders that have `fork` exchanged or not;
+// fork 0 is none, and then all orders count. No table is made: each time is read from the bytes.
+pub fn plan_held(
+    bytes: &[u8],
+    version: u16,
+    k: u16,
+    fork: u16,
+    exchanged: bool,
+    order: &mut [u16],
+    totals: &mut [u64],
+    pivots: &mut [u16],
+) -> Ordered
+    ensures { λ r. ⌜ PlansHeld bytes version k fork exchanged order totals pivots r ⌝ }
+{
+    let refused = judge_held(
+        bytes,
+        version,
+        k,
+        fork,
+        order.len(),
+        totals.len(),
+        pivots.len(),
+    );
+    if refused != 0 {
+        return Ordered::Refused(refused);
+    }
+    let n = base::stop_count(k);
+    let empty = [0u32; 1];
+    let none = &empty[..0];
+    let level = held_fork::level(n, fork as usize);
+    let state = held_fork::state(exchanged);
+    let solved = halve::run(
+        rows::Costs {
+            n,
+            by: rows::BY_PATH,
+            closing: n,
+            version,
+            fork: fork as usize,
+            level,
+            state,
+        },
+        none,
+        none,
+        bytes,
+        &mut order[..n],
+        &mut totals[..n + n],
+        &mut pivots[..n + n],
+        k as u32,
+    );
+    Ordered::Done(solved.total)
 }
 
 // How many candidates a plan of 2^k stops weighs.

@@ -1,12 +1,12 @@
 // Round trips: for each last stop one pass, in which the first stop costs the move that closes the tour; then the places before the best of
 // them are halved.
 
+use crate::clear::zero_stops;
+use crate::clear::zero_totals;
 use crate::halve::Choice;
 use crate::halve::UNREACHED;
 use crate::halve::keep;
 use crate::halve::solve;
-use crate::lent::zero_stops;
-use crate::lent::zero_totals;
 use rows::Costs;
 ghost use mathlib.Core.Path.{_≡_};
 ghost use Prim.Native.Nat.{_+_, _*_, _^_, _≤_, _<_};
@@ -26,7 +26,15 @@ fn closed_total(
     ensures { λ r. ⌜ EndWeighed n k (now (table .entry)) last r ⌝ }
 {
     let none = [0u8; 1];
-    let costs = Costs { n, closing: last };
+    let costs = Costs {
+        n,
+        by: rows::BY_TABLE,
+        closing: last,
+        version: 0,
+        fork: 0,
+        level: 0,
+        state: 0,
+    };
     rows::pass(
         costs,
         table,
@@ -74,7 +82,15 @@ fn best_tour(
     let held = best_end(n, table, totals, pivots, k);
     let last = held.stop;
     order[n - 1] = last as u16;
-    let costs = Costs { n, closing: last };
+    let costs = Costs {
+        n,
+        by: rows::BY_TABLE,
+        closing: last,
+        version: 0,
+        fork: 0,
+        level: 0,
+        state: 0,
+    };
     solve(
         costs,
         table,

@@ -81,3 +81,8 @@ leaf-made C rest {p} {i} {off} {first} {o} {x} {y} {z} {B} {P} {B′} {P′} l f
 pub side-made : (C : Costing) {early b : Bool} {p p′ off start part off′ base size count r : ℕ} {B P B′ P′ : List ℕ} → early ≡ b
     → RowMade p p′ (threeOn C b b p) off start part off′ base size count B P B′ P′ r → RowMade p p′ (threeOn C early early p) off start part off′ base size count B P B′ P′ r
 side-made C e m = rw e m
+
+-- and a row whose place is early, or not
+pub row-made : (C : Costing) {early b : Bool} {p p′ off start part off′ base size count r : ℕ} {B P B′ P′ : List ℕ} → early ≡ b
+    → RowMade p p′ (next C p b) off start part off′ base size count B P B′ P′ r → RowMade p p′ (next C p early) off start part off′ base size count B P B′ P′ r
+row-made C e m = rw e m

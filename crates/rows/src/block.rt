@@ -1,6 +1,7 @@
 // The rows of a block of places, in chunks of four: the row of each chunk's first place stands in the even row, that of its last in the odd row.
 
 use crate::Costs;
+use crate::leaves;
 use crate::row;
 ghost use mathlib.Core.Path.{_≡_};
 ghost use mathlib.Core.Bool.{true};
@@ -45,7 +46,7 @@ fn chunk(
         base,
         size,
     );
-    let rest = row::leaves(
+    let rest = leaves::leaves(
         costs,
         table,
         places,
@@ -121,7 +122,7 @@ fn first_half(
     ensures { λ r. ⌜ MakesRows (costs .n) (left + 1) (left + half) (along (lentCosts costs table places path) true (left + 1) (half - 1)) 0 (costs .n) base (2 * half) (weighings (2 * half) (left + 1) (half - 1)) totals pivots r ⌝ }
 {
     let size = 2 * half;
-    let first = row::leaves(
+    let first = leaves::leaves(
         costs,
         table,
         places,
@@ -208,7 +209,7 @@ pub fn block(
         return row::pair(costs, table, places, path, totals, pivots, left + 1, base);
     }
     if m == 2 {
-        return row::middle(costs, table, places, path, totals, pivots, left + 1, base);
+        return leaves::middle(costs, table, places, path, totals, pivots, left + 1, base);
     }
     large_block(costs, table, places, path, totals, pivots, left, base, m)
 }

@@ -1,16 +1,14 @@
 // What a move costs: the only readings of a cost. `of_move` reads one, and the others gather those of four stops.
 
+use crate::BY_PATH;
+use crate::BY_PLACES;
+use crate::BY_TABLE;
 use crate::Costs;
 ghost use mathlib.Core.Path.{_≡_};
 ghost use Prim.Native.Nat.{_+_, _^_, _≤_, _<_};
 ghost use Rattle.tree.specs.Total.{entry};
 ghost use Rattle.rows.specs.Source.{heldSources, Readable, ReadBy, lentCosts};
 ghost use Rattle.rows.specs.Way.{Priced, CrossedMoves, PairedMoves, FourMoves};
-
-// Ways to read a cost, which the innermost functions are told: by the table of moves alone, or with a table of places.
-pub const BY_TABLE: u8 = 0;
-
-pub const BY_PLACES: u8 = 1;
 
 // What four moves cost.
 pub struct Moves {
@@ -42,33 +40,15 @@ pub fn of_move(
     requires { ⌜ (place < costs .n) × (from < costs .n) × (to < costs .n) ⌝ }
     ensures { λ r. ⌜ Priced (lentCosts costs table places path .weight place) from to r ⌝ }
 {
+    if by == BY_PATH {
+        return wide(times::time_in(path, costs.version, from, to));
+    }
     let n = costs.n;
     let time = wide(table[from * n + to]);
     if by == BY_TABLE {
         return time;
     }
     time + wide(places[to * n + place])
-}
-
-// The same where the way of reading is not known.
-pub fn any_move(
-    costs: Costs,
-    table: &[u32],
-    places: &[u32],
-    path: &[u8],
-    place: usize,
-    from: usize,
-    to: usize,
-) -> u64
-    requires { ⌜ Readable costs (heldSources table places path) ⌝ }
-    requires { ⌜ (place < costs .n) × (from < costs .n) × (to < costs .n) ⌝ }
-    ensures { λ r. ⌜ Priced (lentCosts costs table places path .weight place) from to r ⌝ }
-{
-    if places.len() == 0 {
-        of_move(costs, table, places, path, BY_TABLE, place, from, to)
-    } else {
-        of_move(costs, table, places, path, BY_PLACES, place, from, to)
-    }
 }
 
 // The move from the closing stop to stop i, and 0 where there is none.
@@ -81,6 +61,9 @@ fn of_closing(costs: Costs, table: &[u32], places: &[u32], path: &[u8], i: usize
     if n <= costs.closing {
         return 0;
     }
+    if costs.by == BY_PATH {
+        return 0;
+    }
     wide(table[costs.closing * n + i])
 }
 
@@ -91,7 +74,7 @@ pub fn of_start(costs: Costs, table: &[u32], places: &[u32], path: &[u8], i: usi
     ensures { λ r. ⌜ (r ≡ lentCosts costs table places path .start i) × (r < 2 ^ 33) ⌝ }
 {
     let home = of_closing(costs, table, places, path, i);
-    if places.len() == 0 {
+    if costs.by != BY_PLACES {
         return home;
     }
     let n = costs.n;

@@ -2,10 +2,11 @@
 // place (Algorithm 2 of document 000 makes one pass for each block that it halves).
 //
 // No public function has a `requires`. The contract of `pass` cites `specs/Pass.antt` and, through it, the best walks of `walks`. What a move costs is
-// read in `cost` alone; `way` weighs candidates for up to four stops in registers, `row` makes one row from another, `block` makes those of a
+// read in `cost` alone; `way` weighs candidates for up to four stops in registers, `row` makes one row from another and `leaves` three at once, `block` makes those of a
 // block of places, `ready` tests what a pass is asked for.
 mod block;
 mod cost;
+mod leaves;
 mod ready;
 mod row;
 mod way;
@@ -13,10 +14,23 @@ mod way;
 ghost use Rattle.rows.specs.Source.{lentSources};
 ghost use Rattle.rows.specs.Pass.{MakesPass, StartTold};
 
-// Where costs come from, and for how many stops: a table of n rows, and the stop whose move to the first stop counts as well, n for none.
+// Ways to read a cost: by a table of moves alone, with a table of places, or by the bytes of a path.
+pub const BY_TABLE: u8 = 0;
+
+pub const BY_PLACES: u8 = 1;
+
+pub const BY_PATH: u8 = 2;
+
+// Where costs come from, and for how many stops: the way to read them; the stop whose move to the first stop counts as well, n for none; the version of the path's bytes; and
+// the fork that is held in a state (1 for exchanged), 0 for none, with 2^level stops on each of its sides.
 pub struct Costs {
     pub n: usize,
+    pub by: u8,
     pub closing: usize,
+    pub version: u16,
+    pub fork: usize,
+    pub level: u32,
+    pub state: usize,
 }
 
 // One pass over the 2^m places from `left` on, for the 2^m stops from `base` on, after the stop `before` (before place 0 there is none, and it is not

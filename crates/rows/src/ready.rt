@@ -1,13 +1,51 @@
 // Whether a pass is asked for rightly: the tests of a call, each of which tells exactly what it says.
 
+use crate::BY_PATH;
+use crate::BY_PLACES;
+use crate::BY_TABLE;
 use crate::Costs;
 use crate::row;
 ghost use mathlib.Core.Path.{_≡_};
 ghost use mathlib.Core.Bool.{true};
 ghost use Prim.Native.Nat.{_≤_, _<_};
+ghost use lib.ListN.{length};
 ghost use Rattle.tree.specs.Neighbour.{mayFollow};
-ghost use Rattle.rows.specs.Source.{lentSources, Readable};
+ghost use Rattle.rows.specs.Source.{Sources, lentSources, ByTables, ByPath, Readable};
 ghost use Rattle.rows.specs.Pass.{AlignedBlock, PassReady, Tells};
+
+// Whether slices of these lengths suffice for costs by a path's bytes.
+fn by_path(costs: Costs, table: usize, places: usize) -> bool
+    ensures { λ r. ⌜ ((s : Sources) → length (s .table) ≡ table → length (s .places) ≡ places → Tells r (ByPath costs s)) ⌝ }
+{
+    if table != 0 {
+        return false;
+    }
+    if places != 0 {
+        return false;
+    }
+    if 10 <= costs.level {
+        return false;
+    }
+    costs.state < 2
+}
+
+// Whether they suffice for costs by a table, with so many entries of places.
+fn by_tables(costs: Costs, table: usize, places: usize, path: usize, extra: usize) -> bool
+    requires { ⌜ costs .n ≤ 1024 ⌝ }
+    ensures { λ r. ⌜ ((s : Sources) → length (s .table) ≡ table → length (s .places) ≡ places → length (s .path) ≡ path → Tells r (ByTables costs s extra)) ⌝ }
+{
+    let n = costs.n;
+    if table != n * n {
+        return false;
+    }
+    if path != 0 {
+        return false;
+    }
+    if costs.fork != 0 {
+        return false;
+    }
+    places == extra
+}
 
 // Whether the slices suffice for the costs.
 pub fn readable(costs: Costs, table: &[u32], places: &[u32], path: &[u8]) -> bool
@@ -17,13 +55,17 @@ pub fn readable(costs: Costs, table: &[u32], places: &[u32], path: &[u8]) -> boo
     if 1024 < n {
         return false;
     }
-    if table.len() != n * n {
+    let by = costs.by;
+    if by == BY_TABLE {
+        return by_tables(costs, table.len(), places.len(), path.len(), 0);
+    }
+    if by == BY_PLACES {
+        return by_tables(costs, table.len(), places.len(), path.len(), n * n);
+    }
+    if by != BY_PATH {
         return false;
     }
-    if places.len() == 0 {
-        return true;
-    }
-    places.len() == n * n
+    by_path(costs, table.len(), places.len())
 }
 
 // Whether the 2^m numbers from `start` on are an aligned block of those below n.

@@ -1,10 +1,11 @@
 // One row from another, four stops at a time. The even row stands from 0 on, the odd row from n on; the rows of the places between the first of
 // a chunk of four places and its last are in registers.
 
+use crate::BY_PATH;
+use crate::BY_PLACES;
+use crate::BY_TABLE;
 use crate::Costs;
 use crate::cost;
-use crate::cost::BY_PLACES;
-use crate::cost::BY_TABLE;
 use crate::way;
 use crate::way::Four;
 use crate::way::Way;
@@ -57,7 +58,7 @@ fn load(totals: &[u64], pivots: &[u16], at: usize, early: bool, i: usize) -> Way
 }
 
 // The ways to the stops i to i + 3 in the even row.
-fn load_four(totals: &[u64], pivots: &[u16], early: bool, i: usize) -> Four
+pub fn load_four(totals: &[u64], pivots: &[u16], early: bool, i: usize) -> Four
     requires { ⌜ (i + 3 < length (now totals)) × (i + 3 < length (now pivots)) × (i + 3 < 1024) ⌝ }
     ensures { λ r. ⌜ InFour (λ j. Loaded early (now (totals .entry)) (now (pivots .entry)) j j) i r ⌝ }
 {
@@ -69,7 +70,7 @@ fn load_four(totals: &[u64], pivots: &[u16], early: bool, i: usize) -> Four
 }
 
 // Writes four ways from `at` on, and sums up their weighings.
-fn store_four(totals: &mut [u64], pivots: &mut [u16], at: usize, ways: Four) -> u64
+pub fn store_four(totals: &mut [u64], pivots: &mut [u16], at: usize, ways: Four) -> u64
     requires { ⌜ (at + 3 < length (now totals)) × (at + 3 < length (now pivots)) × (at + 3 < 4096) ⌝ }
     requires { ⌜ EachFour (λ w. w .count < 2 ^ 32) ways ⌝ }
     ensures { λ r. ⌜ r ≡ ways .a .count + ways .b .count + ways .c .count + ways .d .count ⌝ }
@@ -134,8 +135,9 @@ fn other(
 {
     let n = costs.n;
     let before = load(totals, pivots, from, false, from);
-    let cost = cost::any_move(costs, table, places, path, place, from, to);
-    let way = way::only(costs, place, before, cost, false, to, 0);
+    let by = costs.by;
+    let cost = cost::of_move(costs, table, places, path, by, place, from, to);
+    let way = way::only(costs, by, place, before, cost, false, to, 0);
     totals[n + to] = way.total;
     pivots[n + to] = way.pivot;
     way.count
@@ -161,220 +163,6 @@ pub fn pair(
     let one = other(costs, table, places, path, totals, pivots, place, i + 1, i);
     let two = other(costs, table, places, path, totals, pivots, place, i, i + 1);
     one + two
-}
-
-// A LEAF: three places from `place` on, t = 0, 1, 0, for the stops i to i + 3, in registers: from the even row to the odd row. There is a function
-// for each side of the middle, and each is called once, so that the compiler makes a body of each. Here all three places are early.
-fn early_leaf(
-    costs: Costs,
-    table: &[u32],
-    places: &[u32],
-    path: &[u8],
-    totals: &mut [u64],
-    pivots: &mut [u16],
-    place: usize,
-    i: usize,
-) -> u64
-    requires { ⌜ ReadBy 0 costs (heldSources table places path) ⌝ }
-    requires { ⌜ TwoRows (costs .n) (length (now totals)) (length (now pivots)) ⌝ }
-    requires { ⌜ (place % 4 ≡ 1) × (place + 3 ≤ costs .n) × (i % 4 ≡ 0) × (i + 4 ≤ costs .n) ⌝ }
-    requires { ⌜ SomeRow place 0 i 4 (now totals) (now pivots) ⌝ }
-    ensures { λ r. ⌜ MakesRow place (place + 3) (threeOn (lentCosts costs table places path) true true place) 0 i 4 (costs .n) i 4 16 totals pivots r ⌝ }
-{
-    let n = costs.n;
-    let o = load_four(totals, pivots, true, i);
-    let x = way::crossed(costs, table, places, path, BY_TABLE, place, o, i, true);
-    let y = way::paired(costs, table, places, path, BY_TABLE, place + 1, x, i, true);
-    let z = way::crossed(costs, table, places, path, BY_TABLE, place + 2, y, i, true);
-    store_four(totals, pivots, n + i, z)
-}
-
-// The leaf whose places are all late.
-fn late_leaf(
-    costs: Costs,
-    table: &[u32],
-    places: &[u32],
-    path: &[u8],
-    totals: &mut [u64],
-    pivots: &mut [u16],
-    place: usize,
-    i: usize,
-) -> u64
-    requires { ⌜ ReadBy 0 costs (heldSources table places path) ⌝ }
-    requires { ⌜ TwoRows (costs .n) (length (now totals)) (length (now pivots)) ⌝ }
-    requires { ⌜ (place % 4 ≡ 1) × (place + 3 ≤ costs .n) × (i % 4 ≡ 0) × (i + 4 ≤ costs .n) ⌝ }
-    requires { ⌜ SomeRow place 0 i 4 (now totals) (now pivots) ⌝ }
-    ensures { λ r. ⌜ MakesRow place (place + 3) (threeOn (lentCosts costs table places path) false false place) 0 i 4 (costs .n) i 4 16 totals pivots r ⌝ }
-{
-    let n = costs.n;
-    let o = load_four(totals, pivots, false, i);
-    let x = way::crossed(costs, table, places, path, BY_TABLE, place, o, i, false);
-    let y = way::paired(costs, table, places, path, BY_TABLE, place + 1, x, i, false);
-    let z = way::crossed(costs, table, places, path, BY_TABLE, place + 2, y, i, false);
-    store_four(totals, pivots, n + i, z)
-}
-
-// The leaf of a block of four places, whose second place is its middle: the first of the three is early, and the others are late.
-fn middle_leaf(
-    costs: Costs,
-    table: &[u32],
-    places: &[u32],
-    path: &[u8],
-    totals: &mut [u64],
-    pivots: &mut [u16],
-    place: usize,
-    i: usize,
-) -> u64
-    requires { ⌜ ReadBy 0 costs (heldSources table places path) ⌝ }
-    requires { ⌜ TwoRows (costs .n) (length (now totals)) (length (now pivots)) ⌝ }
-    requires { ⌜ (place % 4 ≡ 1) × (place + 3 ≤ costs .n) × (i % 4 ≡ 0) × (i + 4 ≤ costs .n) ⌝ }
-    requires { ⌜ SomeRow place 0 i 4 (now totals) (now pivots) ⌝ }
-    ensures { λ r. ⌜ MakesRow place (place + 3) (threeOn (lentCosts costs table places path) true false place) 0 i 4 (costs .n) i 4 16 totals pivots r ⌝ }
-{
-    let n = costs.n;
-    let o = load_four(totals, pivots, true, i);
-    let middle = way::crossed(costs, table, places, path, BY_TABLE, place, o, i, true);
-    let y = way::paired(
-        costs,
-        table,
-        places,
-        path,
-        BY_TABLE,
-        place + 1,
-        middle,
-        i,
-        false,
-    );
-    let z = way::crossed(costs, table, places, path, BY_TABLE, place + 2, y, i, false);
-    store_four(totals, pivots, n + i, z)
-}
-
-// The leaf where places cost something too; whether the first of its places is early, and whether the others are, is told.
-fn placed_leaf(
-    costs: Costs,
-    table: &[u32],
-    places: &[u32],
-    path: &[u8],
-    totals: &mut [u64],
-    pivots: &mut [u16],
-    place: usize,
-    i: usize,
-    first: bool,
-    rest: bool,
-) -> u64
-    requires { ⌜ ReadBy 1 costs (heldSources table places path) ⌝ }
-    requires { ⌜ TwoRows (costs .n) (length (now totals)) (length (now pivots)) ⌝ }
-    requires { ⌜ (place % 4 ≡ 1) × (place + 3 ≤ costs .n) × (i % 4 ≡ 0) × (i + 4 ≤ costs .n) ⌝ }
-    requires { ⌜ SomeRow place 0 i 4 (now totals) (now pivots) ⌝ }
-    ensures { λ r. ⌜ MakesRow place (place + 3) (threeOn (lentCosts costs table places path) first rest place) 0 i 4 (costs .n) i 4 16 totals pivots r ⌝ }
-{
-    let n = costs.n;
-    let o = load_four(totals, pivots, first, i);
-    let x = way::crossed(costs, table, places, path, BY_PLACES, place, o, i, first);
-    let y = way::paired(costs, table, places, path, BY_PLACES, place + 1, x, i, rest);
-    let z = way::crossed(costs, table, places, path, BY_PLACES, place + 2, y, i, rest);
-    store_four(totals, pivots, n + i, z)
-}
-
-// The leaf of a block of four places, whatever costs something.
-pub fn middle(
-    costs: Costs,
-    table: &[u32],
-    places: &[u32],
-    path: &[u8],
-    totals: &mut [u64],
-    pivots: &mut [u16],
-    place: usize,
-    i: usize,
-) -> u64
-    requires { ⌜ Readable costs (heldSources table places path) ⌝ }
-    requires { ⌜ TwoRows (costs .n) (length (now totals)) (length (now pivots)) ⌝ }
-    requires { ⌜ (place % 4 ≡ 1) × (place + 3 ≤ costs .n) × (i % 4 ≡ 0) × (i + 4 ≤ costs .n) ⌝ }
-    requires { ⌜ SomeRow place 0 i 4 (now totals) (now pivots) ⌝ }
-    ensures { λ r. ⌜ MakesRow place (place + 3) (threeOn (lentCosts costs table places path) true false place) 0 i 4 (costs .n) i 4 16 totals pivots r ⌝ }
-{
-    if places.len() != 0 {
-        return placed_leaf(
-            costs,
-            table,
-            places,
-            path,
-            totals,
-            pivots,
-            place,
-            i,
-            true,
-            false,
-        );
-    }
-    middle_leaf(costs, table, places, path, totals, pivots, place, i)
-}
-
-// The leaf of places that are all early, or none.
-fn leaf(
-    costs: Costs,
-    table: &[u32],
-    places: &[u32],
-    path: &[u8],
-    totals: &mut [u64],
-    pivots: &mut [u16],
-    place: usize,
-    i: usize,
-    early: bool,
-) -> u64
-    requires { ⌜ Readable costs (heldSources table places path) ⌝ }
-    requires { ⌜ TwoRows (costs .n) (length (now totals)) (length (now pivots)) ⌝ }
-    requires { ⌜ (place % 4 ≡ 1) × (place + 3 ≤ costs .n) × (i % 4 ≡ 0) × (i + 4 ≤ costs .n) ⌝ }
-    requires { ⌜ SomeRow place 0 i 4 (now totals) (now pivots) ⌝ }
-    ensures { λ r. ⌜ MakesRow place (place + 3) (threeOn (lentCosts costs table places path) early early place) 0 i 4 (costs .n) i 4 16 totals pivots r ⌝ }
-{
-    if places.len() != 0 {
-        return placed_leaf(
-            costs,
-            table,
-            places,
-            path,
-            totals,
-            pivots,
-            place,
-            i,
-            early,
-            early,
-        );
-    }
-    if early {
-        early_leaf(costs, table, places, path, totals, pivots, place, i)
-    } else {
-        late_leaf(costs, table, places, path, totals, pivots, place, i)
-    }
-}
-
-// Three places for all stops of a block, four at a time.
-pub fn leaves(
-    costs: Costs,
-    table: &[u32],
-    places: &[u32],
-    path: &[u8],
-    totals: &mut [u64],
-    pivots: &mut [u16],
-    place: usize,
-    early: bool,
-    base: usize,
-    size: usize,
-) -> u64
-    requires { ⌜ Readable costs (heldSources table places path) ⌝ }
-    requires { ⌜ TwoRows (costs .n) (length (now totals)) (length (now pivots)) ⌝ }
-    requires { ⌜ (place % 4 ≡ 1) × (place + 3 ≤ costs .n) × (base % 4 ≡ 0) × (size % 4 ≡ 0) × (base + size ≤ costs .n) ⌝ }
-    requires { ⌜ SomeRow place 0 base size (now totals) (now pivots) ⌝ }
-    ensures { λ r. ⌜ MakesRow place (place + 3) (threeOn (lentCosts costs table places path) early early place) 0 base size (costs .n) base size (4 * size) totals pivots r ⌝ }
-{
-    let mut count = 0;
-    let mut i = base;
-    while i < base + size {
-        count += leaf(costs, table, places, path, totals, pivots, place, i, early);
-        i += 4;
-    }
-    count
 }
 
 // The cheapest ways to the stops `to` to `to` + 3 in `place` from their 2^t candidates in the odd row; t is 2 or more, so that the four have the
@@ -412,10 +200,10 @@ fn cheapest_four(
         let before = load(totals, pivots, n + j, early, j);
         held = way::weigh_four(costs, table, places, path, by, place, held, before, j, to);
     }
-    way::settle_four(costs, place, held, early, to)
+    way::settle_four(costs, by, place, held, early, to)
 }
 
-// The same where the way of reading is not known.
+// The same by tables, where it is not known which.
 fn any_four(
     costs: Costs,
     table: &[u32],
@@ -428,14 +216,14 @@ fn any_four(
     early: bool,
     to: usize,
 ) -> Four
-    requires { ⌜ Readable costs (heldSources table places path) ⌝ }
+    requires { ⌜ Readable costs (heldSources table places path) × (costs .by ≡ 2 → ⊥) ⌝ }
     requires { ⌜ TwoRows (costs .n) (length (now totals)) (length (now pivots)) ⌝ }
     requires { ⌜ (place < costs .n) × (t ≡ trail place) × (2 ≤ t) × (t < 10) × (to % 4 ≡ 0) × (to + 4 ≤ costs .n) × (besideOf to t + 2 ^ t ≤ costs .n) ⌝ }
     requires { ⌜ SomeRow place (costs .n) (besideOf to t) (2 ^ t) (now totals) (now pivots) ⌝ }
     ensures { λ r. ⌜ InFour (λ i w. w .count ≡ 2 ^ t) to r ⌝ }
     ensures { λ r. ⌜ ((row : ℕ → Found ℕ) → Row place row (costs .n) (besideOf to t) (2 ^ t) (now (totals .entry)) (now (pivots .entry)) → InFour (Leads (place + 1) (next (lentCosts costs table places path) place early row)) to r) ⌝ }
 {
-    if places.len() == 0 {
+    if costs.by == BY_TABLE {
         cheapest_four(
             costs,
             table,
@@ -466,7 +254,7 @@ fn any_four(
     }
 }
 
-// The stops `to` to `to` + 3 in the even row, from their candidates in the odd row.
+// The stops `to` to `to` + 3 in the even row, from their candidates in the odd row, by tables.
 fn four_columns(
     costs: Costs,
     table: &[u32],
@@ -479,7 +267,7 @@ fn four_columns(
     early: bool,
     to: usize,
 ) -> u64
-    requires { ⌜ Readable costs (heldSources table places path) ⌝ }
+    requires { ⌜ Readable costs (heldSources table places path) × (costs .by ≡ 2 → ⊥) ⌝ }
     requires { ⌜ TwoRows (costs .n) (length (now totals)) (length (now pivots)) ⌝ }
     requires { ⌜ (place < costs .n) × (t ≡ trail place) × (2 ≤ t) × (t < 10) × (to % 4 ≡ 0) × (to + 4 ≤ costs .n) × (besideOf to t + 2 ^ t ≤ costs .n) ⌝ }
     requires { ⌜ SomeRow place (costs .n) (besideOf to t) (2 ^ t) (now totals) (now pivots) ⌝ }
@@ -500,8 +288,43 @@ fn four_columns(
     store_four(totals, pivots, to, ways)
 }
 
-// The row of `place`, the even row, from the odd row, for the stops of a block.
-pub fn next_row(
+// The stops `to` to `to` + 3 in the even row, from their candidates in the odd row, by the bytes of a path.
+fn path_columns(
+    costs: Costs,
+    table: &[u32],
+    places: &[u32],
+    path: &[u8],
+    totals: &mut [u64],
+    pivots: &mut [u16],
+    place: usize,
+    t: u32,
+    early: bool,
+    to: usize,
+) -> u64
+    requires { ⌜ ReadBy 2 costs (heldSources table places path) ⌝ }
+    requires { ⌜ TwoRows (costs .n) (length (now totals)) (length (now pivots)) ⌝ }
+    requires { ⌜ (place < costs .n) × (t ≡ trail place) × (2 ≤ t) × (t < 10) × (to % 4 ≡ 0) × (to + 4 ≤ costs .n) × (besideOf to t + 2 ^ t ≤ costs .n) ⌝ }
+    requires { ⌜ SomeRow place (costs .n) (besideOf to t) (2 ^ t) (now totals) (now pivots) ⌝ }
+    ensures { λ r. ⌜ MakesRow place (place + 1) (next (lentCosts costs table places path) place early) (costs .n) (besideOf to t) (2 ^ t) 0 to 4 (4 * 2 ^ t) totals pivots r ⌝ }
+{
+    let ways = cheapest_four(
+        costs,
+        table,
+        places,
+        path,
+        BY_PATH,
+        totals,
+        pivots,
+        place,
+        t,
+        early,
+        to,
+    );
+    store_four(totals, pivots, to, ways)
+}
+
+// The row of `place`, the even row, from the odd row, for the stops of a block, by tables.
+fn table_row(
     costs: Costs,
     table: &[u32],
     places: &[u32],
@@ -514,7 +337,7 @@ pub fn next_row(
     base: usize,
     size: usize,
 ) -> u64
-    requires { ⌜ Readable costs (heldSources table places path) ⌝ }
+    requires { ⌜ Readable costs (heldSources table places path) × (costs .by ≡ 2 → ⊥) ⌝ }
     requires { ⌜ TwoRows (costs .n) (length (now totals)) (length (now pivots)) ⌝ }
     requires { ⌜ (place < costs .n) × (t ≡ trail place) × (2 ≤ t) × (t < 10) × (base % 4 ≡ 0) × (size % 4 ≡ 0) × (base + size ≤ costs .n) × BlockClosed t base size ⌝ }
     requires { ⌜ SomeRow place (costs .n) base size (now totals) (now pivots) ⌝ }
@@ -538,4 +361,111 @@ pub fn next_row(
         i += 4;
     }
     count
+}
+
+// The row of `place`, the even row, from the odd row, for the stops of a block, by the bytes of a path.
+fn path_row(
+    costs: Costs,
+    table: &[u32],
+    places: &[u32],
+    path: &[u8],
+    totals: &mut [u64],
+    pivots: &mut [u16],
+    place: usize,
+    t: u32,
+    early: bool,
+    base: usize,
+    size: usize,
+) -> u64
+    requires { ⌜ ReadBy 2 costs (heldSources table places path) ⌝ }
+    requires { ⌜ TwoRows (costs .n) (length (now totals)) (length (now pivots)) ⌝ }
+    requires { ⌜ (place < costs .n) × (t ≡ trail place) × (2 ≤ t) × (t < 10) × (base % 4 ≡ 0) × (size % 4 ≡ 0) × (base + size ≤ costs .n) × BlockClosed t base size ⌝ }
+    requires { ⌜ SomeRow place (costs .n) base size (now totals) (now pivots) ⌝ }
+    ensures { λ r. ⌜ MakesRow place (place + 1) (next (lentCosts costs table places path) place early) (costs .n) base size 0 base size (2 ^ t * size) totals pivots r ⌝ }
+{
+    let mut count = 0;
+    let mut i = base;
+    while i < base + size {
+        count += path_columns(
+            costs,
+            table,
+            places,
+            path,
+            totals,
+            pivots,
+            place,
+            t,
+            early,
+            i,
+        );
+        i += 4;
+    }
+    count
+}
+
+// The row of `place`, the even row, from the odd row, for the stops of a block. By a path it has a loop of its own, which is called for early and for late
+// places apart: then the compiler keeps it out of the loop by tables, which is as fast as if there were no other.
+pub fn next_row(
+    costs: Costs,
+    table: &[u32],
+    places: &[u32],
+    path: &[u8],
+    totals: &mut [u64],
+    pivots: &mut [u16],
+    place: usize,
+    t: u32,
+    early: bool,
+    base: usize,
+    size: usize,
+) -> u64
+    requires { ⌜ Readable costs (heldSources table places path) ⌝ }
+    requires { ⌜ TwoRows (costs .n) (length (now totals)) (length (now pivots)) ⌝ }
+    requires { ⌜ (place < costs .n) × (t ≡ trail place) × (2 ≤ t) × (t < 10) × (base % 4 ≡ 0) × (size % 4 ≡ 0) × (base + size ≤ costs .n) × BlockClosed t base size ⌝ }
+    requires { ⌜ SomeRow place (costs .n) base size (now totals) (now pivots) ⌝ }
+    ensures { λ r. ⌜ MakesRow place (place + 1) (next (lentCosts costs table places path) place early) (costs .n) base size 0 base size (2 ^ t * size) totals pivots r ⌝ }
+{
+    if costs.by != BY_PATH {
+        return table_row(
+            costs,
+            table,
+            places,
+            path,
+            totals,
+            pivots,
+            place,
+            t,
+            early,
+            base,
+            size,
+        );
+    }
+    if early {
+        path_row(
+            costs,
+            table,
+            places,
+            path,
+            totals,
+            pivots,
+            place,
+            t,
+            true,
+            base,
+            size,
+        )
+    } else {
+        path_row(
+            costs,
+            table,
+            places,
+            path,
+            totals,
+            pivots,
+            place,
+            t,
+            false,
+            base,
+            size,
+        )
+    }
 }

@@ -1,14 +1,15 @@
 // Ways: the best total of a stop, with its pivot and the count of weighings. Candidates are weighed one by one, and the cheapest way is held.
 
+use crate::BY_PATH;
 use crate::Costs;
 use crate::cost;
 ghost use mathlib.Core.Path.{_≡_};
-ghost use mathlib.Core.Bool.{true};
+ghost use mathlib.Core.Bool.{true, cond};
 ghost use Prim.Native.Nat.{ℕ, _+_, _%_, _^_, _≤_, _<_};
 ghost use Rattle.walks.specs.Best.{Found};
 ghost use Rattle.tree.specs.Neighbour.{trail, mayFollow};
-ghost use Rattle.rows.specs.Source.{Sources, heldSources, costsOf, Readable, ReadBy, lentCosts};
-ghost use Rattle.rows.specs.Row.{nothing, next, firstRow};
+ghost use Rattle.rows.specs.Source.{Sources, heldSources, heldFits, costsOf, Readable, ReadBy, Holding, lentCosts};
+ghost use Rattle.rows.specs.Row.{unreached, nothing, next, firstRow};
 ghost use Rattle.rows.specs.Way.{Weighing, Weighed, Settled, Leads, Light, OnlyBefore, TwoBefore, EachFour, InFour, ByFour, Grown};
 
 // The best way to a stop: its total, its stop in the middle place, and how many candidates were weighed for it.
@@ -62,28 +63,74 @@ fn weigh(held: Way, before: Way, cost: u64) -> Way
     }
 }
 
-// What is held for stop i in `place` once all are weighed: in an early place, up to the middle one, the stop is its own pivot. By a table every
-// stop may stand in every place.
-fn settle(costs: Costs, place: usize, held: Way, early: bool, i: usize) -> Way
-    requires { ⌜ i < 1024 ⌝ }
+// No walk leads there: a number above every total.
+const UNREACHED: u64 = 9_223_372_036_854_775_808;
+
+// Whether stop i may stand in `place`, where a fork is held.
+fn fits(costs: Costs, place: usize, i: usize) -> bool
+    requires { ⌜ (costs .n ≤ 1024) × (costs .level < 10) × (costs .state < 2) × (i < 1024) ⌝ }
+    ensures { λ r. ⌜ r ≡ heldFits costs place i ⌝ }
+{
+    if costs.fork == 0 {
+        return true;
+    }
+    let level = costs.level;
+    let fork = (costs.n + i) >> (level + 1);
+    if fork != costs.fork {
+        return true;
+    }
+    let side = (i >> level) % 2;
+    (place >> level) % 2 == (side + costs.state) % 2
+}
+
+// The total of stop i in `place`, and no walk where it does not fit. By tables every stop fits every place, and nothing is tested.
+fn fitting(costs: Costs, by: u8, place: usize, total: u64, i: usize) -> u64
+    requires { ⌜ Holding by costs × (i < 1024) ⌝ }
+    ensures { λ r. ⌜ r ≡ cond (heldFits costs place i) total unreached ⌝ }
+{
+    if by != BY_PATH {
+        return total;
+    }
+    if fits(costs, place, i) {
+        return total;
+    }
+    UNREACHED
+}
+
+// What is held for stop i in `place` once all are weighed: in an early place, up to the middle one, the stop is its own pivot.
+fn settle(costs: Costs, by: u8, place: usize, held: Way, early: bool, i: usize) -> Way
+    requires { ⌜ Holding by costs × (i < 1024) ⌝ }
     ensures { λ r. ⌜ ((s : Sources) → Settled (costsOf costs s) place early i held r) ⌝ }
 {
+    let total = fitting(costs, by, place, held.total, i);
     if early {
         Way {
-            total: held.total,
+            total,
             pivot: i as u16,
             count: held.count,
         }
     } else {
         Way {
-            total: held.total,
+            total,
             pivot: held.pivot,
             count: held.count,
         }
     }
 }
 
-// The way to stop i as the first of the places from `left` on, after the stop `before`: nothing is weighed.
+// The way to stop i as the first of the places from `left` on, at this cost: nothing is weighed.
+fn begun(costs: Costs, left: usize, cost: u64, i: usize) -> Way
+    requires { ⌜ Holding (costs .by) costs × (i < 1024) ⌝ }
+    ensures { λ r. ⌜ (r .total ≡ cond (heldFits costs left i) cost unreached) × (r .pivot ≡ i) × (r .count ≡ 0) ⌝ }
+{
+    Way {
+        total: fitting(costs, costs.by, left, cost, i),
+        pivot: i as u16,
+        count: 0,
+    }
+}
+
+// The same after the stop `before`; before place 0 there is none.
 pub fn first(
     costs: Costs,
     table: &[u32],
@@ -99,23 +146,18 @@ pub fn first(
     ensures { λ r. ⌜ Leads (left + 1) (firstRow (lentCosts costs table places path) before left) i r ⌝ }
 {
     if left == 0 {
-        Way {
-            total: cost::of_start(costs, table, places, path, i),
-            pivot: i as u16,
-            count: 0,
-        }
+        let start = cost::of_start(costs, table, places, path, i);
+        begun(costs, left, start, i)
     } else {
-        Way {
-            total: cost::any_move(costs, table, places, path, left, before, i),
-            pivot: i as u16,
-            count: 0,
-        }
+        let cost = cost::of_move(costs, table, places, path, costs.by, left, before, i);
+        begun(costs, left, cost, i)
     }
 }
 
 // The way to the stop `to` from the only stop that may come before it, at this cost.
 pub fn only(
     costs: Costs,
+    by: u8,
     place: usize,
     before: Way,
     cost: u64,
@@ -123,17 +165,18 @@ pub fn only(
     to: usize,
     count: u64,
 ) -> Way
-    requires { ⌜ (to < 1024) × Light before × (cost < 2 ^ 33) × (count < 2 ^ 32) ⌝ }
+    requires { ⌜ Holding by costs × (to < 1024) × Light before × (cost < 2 ^ 33) × (count < 2 ^ 32) ⌝ }
     ensures { λ r. ⌜ r .count ≡ count + 1 ⌝ }
     ensures { λ r. ⌜ ((s : Sources) (row : ℕ → Found ℕ) (from : ℕ) → OnlyBefore (costsOf costs s) place row from before to cost → Leads (place + 1) (next (costsOf costs s) place early row) to r) ⌝ }
 {
     let held = weigh(start(before.pivot, count), before, cost);
-    settle(costs, place, held, early, to)
+    settle(costs, by, place, held, early, to)
 }
 
 // The way to the stop `to` from the only two, at these costs.
 fn of_two(
     costs: Costs,
+    by: u8,
     place: usize,
     x: Way,
     y: Way,
@@ -143,13 +186,13 @@ fn of_two(
     to: usize,
     count: u64,
 ) -> Way
-    requires { ⌜ (to < 1024) × Light x × Light y × (c < 2 ^ 33) × (d < 2 ^ 33) × (count < 2 ^ 32) ⌝ }
+    requires { ⌜ Holding by costs × (to < 1024) × Light x × Light y × (c < 2 ^ 33) × (d < 2 ^ 33) × (count < 2 ^ 32) ⌝ }
     ensures { λ r. ⌜ r .count ≡ count + 2 ⌝ }
     ensures { λ r. ⌜ ((s : Sources) (row : ℕ → Found ℕ) (f : ℕ) → TwoBefore (costsOf costs s) place row f x y to c d → Leads (place + 1) (next (costsOf costs s) place early row) to r) ⌝ }
 {
     let one = weigh(start(x.pivot, count), x, c);
     let both = weigh(one, y, d);
-    settle(costs, place, both, early, to)
+    settle(costs, by, place, both, early, to)
 }
 
 // A place with t = 0 for the stops i to i + 3.
@@ -171,10 +214,10 @@ pub fn crossed(
     ensures { λ r. ⌜ ((row : ℕ → Found ℕ) → InFour (Leads place row) i o → InFour (Leads (place + 1) (next (lentCosts costs table places path) place early row)) i r) ⌝ }
 {
     let w = cost::crossed(costs, table, places, path, by, place, i);
-    let a = only(costs, place, o.b, w.a, early, i, o.a.count);
-    let b = only(costs, place, o.a, w.b, early, i + 1, o.b.count);
-    let c = only(costs, place, o.d, w.c, early, i + 2, o.c.count);
-    let d = only(costs, place, o.c, w.d, early, i + 3, o.d.count);
+    let a = only(costs, by, place, o.b, w.a, early, i, o.a.count);
+    let b = only(costs, by, place, o.a, w.b, early, i + 1, o.b.count);
+    let c = only(costs, by, place, o.d, w.c, early, i + 2, o.c.count);
+    let d = only(costs, by, place, o.c, w.d, early, i + 3, o.d.count);
     Four { a, b, c, d }
 }
 
@@ -198,10 +241,43 @@ pub fn paired(
 {
     let v = cost::paired(costs, table, places, path, by, place, i, i, i + 2);
     let w = cost::paired(costs, table, places, path, by, place, i, i + 1, i + 3);
-    let a = of_two(costs, place, o.c, o.d, v.a, w.a, early, i, o.a.count);
-    let b = of_two(costs, place, o.c, o.d, v.b, w.b, early, i + 1, o.b.count);
-    let c = of_two(costs, place, o.a, o.b, v.c, w.c, early, i + 2, o.c.count);
-    let d = of_two(costs, place, o.a, o.b, v.d, w.d, early, i + 3, o.d.count);
+    let a = of_two(costs, by, place, o.c, o.d, v.a, w.a, early, i, o.a.count);
+    let b = of_two(
+        costs,
+        by,
+        place,
+        o.c,
+        o.d,
+        v.b,
+        w.b,
+        early,
+        i + 1,
+        o.b.count,
+    );
+    let c = of_two(
+        costs,
+        by,
+        place,
+        o.a,
+        o.b,
+        v.c,
+        w.c,
+        early,
+        i + 2,
+        o.c.count,
+    );
+    let d = of_two(
+        costs,
+        by,
+        place,
+        o.a,
+        o.b,
+        v.d,
+        w.d,
+        early,
+        i + 3,
+        o.d.count,
+    );
     Four { a, b, c, d }
 }
 
@@ -232,13 +308,13 @@ pub fn weigh_four(
 }
 
 // What is held for the stops i to i + 3 in `place`, once all are weighed.
-pub fn settle_four(costs: Costs, place: usize, held: Four, early: bool, i: usize) -> Four
-    requires { ⌜ i + 3 < 1024 ⌝ }
+pub fn settle_four(costs: Costs, by: u8, place: usize, held: Four, early: bool, i: usize) -> Four
+    requires { ⌜ Holding by costs × (i + 3 < 1024) ⌝ }
     ensures { λ r. ⌜ ((s : Sources) → ByFour (Settled (costsOf costs s) place early) i held r) ⌝ }
 {
-    let a = settle(costs, place, held.a, early, i);
-    let b = settle(costs, place, held.b, early, i + 1);
-    let c = settle(costs, place, held.c, early, i + 2);
-    let d = settle(costs, place, held.d, early, i + 3);
+    let a = settle(costs, by, place, held.a, early, i);
+    let b = settle(costs, by, place, held.b, early, i + 1);
+    let c = settle(costs, by, place, held.c, early, i + 2);
+    let d = settle(costs, by, place, held.d, early, i + 3);
     Four { a, b, c, d }
 }

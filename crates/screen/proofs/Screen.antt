@@ -16,7 +16,7 @@ use Rattle.base.proofs.Outcome.{passed, refused}
 use Rattle.path.specs.declared.Head.{Head}
 use Rattle.path.specs.Path.{path, readPath, stopsIn}
 use Rattle.path.specs.Reading.{pathGiven}
-use Rattle.path.proofs.JudgeLaws.{path-tests, path-good}
+use Rattle.path.proofs.JudgeLaws.{JudgedBody, path-tests, path-good}
 use Rattle.times.specs.InPath.{timeIn}
 use Rattle.times.specs.Table.{entryOf}
 use Rattle.times.proofs.InPath.{time-in-path}
@@ -79,6 +79,7 @@ module _ (bytes : List ℕ) (highest : ℕ) (test : ℕ → Outcome Unit) where
   -- a path that passed: its stops, long enough buffers, and times that come straight from its bytes
   pub record GoodPath (version k : ℕ) : Type 0 where
     pub reads : readPath bytes highest test ≡ gives (path version k (stopsIn version (2 ^ k) bytes))
+    pub body : JudgedBody bytes version k
     pub small : k ≤ maxK
     pub takes : test k ≡ gives tt
     pub times : (i j : ℕ) → i < 2 ^ k → j < 2 ^ k → timeIn version bytes i j ≡ entryOf (stopsIn version (2 ^ k) bytes) i j
@@ -97,7 +98,7 @@ module _ (bytes : List ℕ) (highest : ℕ) (test : ℕ → Outcome Unit) where
     pub good-path : h .refused ≡ 0 → GoodPath (h .version) (h .k)
     good-path z =
         let p = path-good bytes highest test sound h by-test z in
-        record { reads = p .reads; small = p .body .small; takes = p .takes; times = time-in-path (h .version) (2 ^ h .k) bytes (p .body .range) }
+        record { reads = p .reads; body = p .body; small = p .body .small; takes = p .takes; times = time-in-path (h .version) (2 ^ h .k) bytes (p .body .range) }
 
     -- one that was refused
     pub bad-path : (h .refused ≡ 0 → ⊥) → readPath bytes highest test ≡ refuses (h .refused)

@@ -3,6 +3,7 @@
 
 mod examples;
 mod filled;
+mod forks;
 mod listing;
 mod named;
 mod orders;
@@ -101,6 +102,9 @@ fn path_refused(bytes: &[u8], highest: u16) -> u16 {
     let number = run.read(bytes, highest).expect_err("a refusal");
     assert_eq!(run.whole(bytes, highest), Err(number));
     assert!(run == before, "a refusal wrote");
+    let mut orders = [77; 8];
+    assert_eq!(fork_cost(bytes, highest, 0, &mut run.totals, &mut run.pivots, &mut orders, 0), Err(number));
+    assert!(run == before && orders == [77; 8], "a refusal wrote");
     let mut out = [77; 200];
     let negative = -i64::from(number);
     assert_eq!(cell_plan(bytes, highest, &mut out), negative);

@@ -1,6 +1,5 @@
 -- `planner::plan_places` meets its contract: the costs come from both tables.
 use mathlib.Core.Path.{_≡_, refl, sym, ap, _∙_}
-use mathlib.Core.Logic.{inr}
 use Prim.Native.Nat.{_+_, _*_, _^_, _≤_}
 use native.Mathlib.Omega.{arith}
 use lib.ListN.{length}
@@ -9,6 +8,7 @@ use borrow.Author.Needs.{needs}
 use Rattle.base.proofs.Outcome.{refused}
 use Rattle.base.proofs.Size.{stopCount-pow, pow-le-1024}
 use Rattle.rows.specs.declared.Costs.{Costs}
+use Rattle.rows.proofs.Table.{readable-places}
 use Rattle.tree.specs.Total.{entry}
 use Rattle.costs.proofs.Placed.{placed-long}
 use Rattle.planner.specs.Places.{placesRoom}
@@ -41,7 +41,7 @@ returns c =
 
 -- the costs that come from the tables
 abbrev costs : tie.After-stop-count → Costs
-costs c = record { n = c .stop-count .result; closing = c .stop-count .result }
+costs c = record { n = c .stop-count .result; by = 1; closing = c .stop-count .result; version = 0; fork = 0; level = 0; state = 0 }
 
 run-requires : tie.Need-run-requires
 run-requires c κs =
@@ -49,8 +49,8 @@ run-requires c κs =
     let f = fit at in
     let e = count at in
     let l = lent at in (
-      record { small = l .3; square = f .fit .square ∙ ap (λ x. x * x) (sym e); extra = inr (f .extra ∙ ap (λ x. x * x) (sym e)) },
-      (record { k = start at .args .k; small = f .fit .small; stops = e; places = length-take-le _ _ (l .0); rows = length-take-le _ _ (l .1); marks = length-take-le _ _ (l .2) }, (e, both-plan (costs at) _ _ e (record { none = omega arith; square = fit at .fit .square ∙ ap (λ x. x * x) (sym e) }))),
+      readable-places (l .3) refl (record { square = fit at .fit .square ∙ ap (λ x. x * x) (sym e); extra = fit at .extra ∙ ap (λ x. x * x) (sym e); alone = refl; free = refl }),
+      (record { k = start at .args .k; small = f .fit .small; stops = e; places = length-take-le _ _ (l .0); rows = length-take-le _ _ (l .1); marks = length-take-le _ _ (l .2) }, (e, both-plan (costs at) _ _ e (record { none = omega arith; tables = record { square = fit at .fit .square ∙ ap (λ x. x * x) (sym e); extra = fit at .extra ∙ ap (λ x. x * x) (sym e); alone = refl; free = refl } }))),
     )
 
 returns-2 : tie.Need-returns-2
@@ -59,7 +59,7 @@ returns-2 c =
     let at = run .before .before .before .before .before in
     let a = start at .args in
     let e = count at in
-    order-written (a .k) _ (a .order .now) (a .totals .now) (a .pivots .now) (at .stop-count .result) _ e (rw (fit at .same)) (placed-long (a .k) _ _) (both-left (costs at) _ (run .run .result) e (record { none = omega arith; square = fit at .fit .square ∙ ap (λ x. x * x) (sym e) }) (run .run .ensures))
+    order-written (a .k) _ (a .order .now) (a .totals .now) (a .pivots .now) (at .stop-count .result) _ e (rw (fit at .same)) (placed-long (a .k) _ _) (both-left (costs at) _ (run .run .result) e (record { none = omega arith; tables = record { square = fit at .fit .square ∙ ap (λ x. x * x) (sym e); extra = fit at .extra ∙ ap (λ x. x * x) (sym e); alone = refl; free = refl } }) (run .run .ensures))
 
 pub plan-places-spec : {M : Type 1} → statement M
 plan-places-spec =

@@ -6,6 +6,7 @@ use evidence::{
     ffi,
     plain::{self, Checked, Columns, Pairs, Slices, Step},
     plain_filled::{self, Fill, One, Two},
+    plain_fork::{self, Reach},
     plain_jobs,
     plain_path::{self, Chunks, Indices, Way},
     plain_screen,
@@ -91,6 +92,13 @@ const CASES: &[Case] = &[
         ],
     },
     Case {
+        name: "fork_cost",
+        call: |k| Call::ForkCost { highest: 6, fork: last_fork(k), field: 1 },
+        paths: &[(6, 6), (8, 6), (10, 6)],
+        proved: |k, l| ffi::fork_cost(&l.bytes, 6, last_fork(k), &mut l.totals, &mut l.pivots, &mut l.orders, 1),
+        plain: &[("indices", plain_fork_last::<Indices>), ("chunks", plain_fork_last::<Chunks>)],
+    },
+    Case {
         name: "plan_filled, all filled",
         call: |k| Call::PlanFilled { k },
         paths: &[(6, 5)],
@@ -161,6 +169,9 @@ const CASES: &[Case] = &[
     },
 ];
 
+/// Another proved call for the same path, whose time is noted beside a case: the case, what the report calls the other, and its run.
+const BESIDE: &[(&str, &str, Run)] = &[("fork_cost", "proved `plan_path`", plan_path)];
+
 /// The result of a controller's call.
 fn value(result: i64) -> Result<u64, u16> {
     u64::try_from(result).map_err(|_| (-result) as u16)
@@ -229,6 +240,10 @@ fn plain_exchange_last<W: Way>(k: u16, l: &mut Lent<Heap>) -> Result<u64, u16> {
     plain_screen::exchange_fork::<W>(&l.bytes, 6, last_fork(k), &mut l.order, &mut l.sums).map(|()| 0)
 }
 
+fn plain_fork_last<R: Reach>(k: u16, l: &mut Lent<Heap>) -> Result<u64, u16> {
+    plain_fork::fork_cost::<R>(&l.bytes, 6, last_fork(k), &mut l.totals, &mut l.pivots, &mut l.orders, 1)
+}
+
 fn plain_cell_plan<S: Step>(_: u16, l: &mut Lent<Heap>) -> Result<u64, u16> {
     value(plain_jobs::cell_plan::<S>(&l.bytes, 6, &mut l.out))
 }
@@ -243,6 +258,8 @@ pub struct Measured {
     pub rounds: usize,
     pub proved: f64,
     pub plain: Vec<(&'static str, f64)>,
+    /// What is noted beside it.
+    pub beside: Option<(&'static str, f64)>,
 }
 
 impl Measured {
@@ -256,11 +273,15 @@ impl Case {
     /// The case for one path. Every contender has the same buffers, and must give the same value.
     fn measure(&self, random: &mut Random, k: u16, version: u16) -> Measured {
         let mut lent = World::wide(random, k, version).lent(random, (self.call)(k));
-        let contenders: Vec<Run> = [self.proved].into_iter().chain(self.plain.iter().map(|plain| plain.1)).collect();
-        let due = (self.proved)(k, &mut lent).expect("a good path");
-        let (times, rounds) = race(contenders.len(), |i| assert_eq!(black_box(contenders[i])(k, black_box(&mut lent)), Ok(due)));
+        let beside = BESIDE.iter().find(|beside| beside.0 == self.name);
+        let same = [self.proved].into_iter().chain(self.plain.iter().map(|plain| plain.1));
+        let contenders: Vec<Run> = same.chain(beside.map(|beside| beside.2)).collect();
+        let due: Vec<u64> = contenders.iter().map(|run| run(k, &mut lent).expect("a good path")).collect();
+        assert!(due[..=self.plain.len()].iter().all(|&value| value == due[0]));
+        let (times, rounds) = race(contenders.len(), |i| assert_eq!(black_box(contenders[i])(k, black_box(&mut lent)), Ok(due[i])));
         let plain = self.plain.iter().map(|plain| plain.0).zip(times[1..].iter().copied()).collect();
-        Measured { name: self.name, k, version, bytes: lent.bytes.len(), rounds, proved: times[0], plain }
+        let beside = beside.map(|beside| (beside.1, times[contenders.len() - 1]));
+        Measured { name: self.name, k, version, bytes: lent.bytes.len(), rounds, proved: times[0], plain, beside }
     }
 }
 

@@ -20,7 +20,9 @@ const CALLS: &str = "\
 Paths of 2^k stops whose fields take their whole range. `plan_path` leads from path bytes to the order. Plain Rust goes through the records by
 indices or takes them off the front as arrays (chunks); its `cell_check` makes no table and sums the n − 1 moves; the planner's ways are those
 below. `table_from` makes the table from path bytes. `plan_places` plans by the travel times and a second table of random entries.
-`tour` plans a round trip by one pass for each last stop and one halving.
+`tour` plans a round trip by one pass for each last stop and one halving. `fork_cost` plans twice without a table, the second time with the last
+fork held in the opposite state; plain Rust does so for two stops at a time. Noted beside it is `plan_path` for the same path, which plans once by a
+table.
 `plan_filled` weighs one stop's candidates at a time or those of two neighbouring stops together. `exchange_fork` validates order and sums before it exchanges
 the root or the last fork; each call undoes the one before.";
 
@@ -62,9 +64,10 @@ fn processor() -> String {
 pub fn calls(all: &[cases::Measured]) -> String {
     let row = |of: &cases::Measured| {
         let ways: Vec<String> = of.plain.iter().map(|(name, time)| format!("{name} {}", figures(*time))).collect();
+        let note = of.beside.map_or(String::new(), |(name, time)| format!("; {name} {}", figures(time)));
         let (name, ratio) = (format!("`{}`", of.name), format!("{:.2}", of.proved / of.best()));
         let [k, version, rounds] = [of.k.into(), of.version.into(), of.rounds].map(|number| number.to_string());
-        vec![name, k, version, rounds, figures(of.proved), figures(of.best()), ratio, ways.join(", ")]
+        vec![name, k, version, rounds, figures(of.proved), figures(of.best()), ratio, ways.join(", ") + &note]
     };
     table(&["call", "k", "version", "rounds", "proved", "plain Rust", "ratio", "plain Rust, each way"], all.iter().map(row))
 }

@@ -36,10 +36,10 @@ solve-requires c κs =
     let q = start end .pre in
     let s = stops end in
     let o = last end in (
-      tour-readable _ _ _ (q .0) refl _,
+      tour-readable _ _ _ (q .0) (record { flat = refl; alone = refl }) _,
       (
         record { k = start end .args .k; small = q .0 .small; stops = q .0 .stops; places = o .1; rows = end .best-end .kept .1 .1 .0 ∙ q .2; marks = end .best-end .kept .1 .1 .1 .0 ∙ q .3 },
-        (whole-block (q .0 .stops), (o .0, tour-reached _ _ _ (q .0) refl (end .best-end .result) (end .best-end .ensures) (zeroed end .zero-stops .last .0) (s .1))),
+        (whole-block (q .0 .stops), (o .0, tour-reached _ _ _ (q .0) (record { flat = refl; alone = refl }) (end .best-end .result) (end .best-end .ensures) (zeroed end .zero-stops .last .0) (s .1))),
       ),
     )
 
@@ -51,7 +51,7 @@ returns c =
     let solved = c .before .before .before .before .before .before in
     let end = found solved in
     let q = start end .pre in
-    tour-solved _ _ _ (q .0) refl (end .best-end .result) (end .best-end .ensures) (zeroed end .zero-stops .last .0) _ (stops end .1) (solved .solve .kept .1 .1 .1 .1 .0 ∙ last end .1) (solved .solve .ensures .0)
+    tour-solved _ _ _ (q .0) (record { flat = refl; alone = refl }) (end .best-end .result) (end .best-end .ensures) (zeroed end .zero-stops .last .0) _ (stops end .1) (solved .solve .kept .1 .1 .1 .1 .0 ∙ last end .1) (solved .solve .ensures .0)
 
 pub best-tour-spec : {M : Type 1} → statement M
 best-tour-spec =

@@ -10,7 +10,7 @@ returns c =
     let passed = c .before .before .before .before .before in
     let a = passed .before .before .before .before .before .before .before .before in
     let q = a .pre in
-    end-weighed _ _ _ (q .0) refl (a .args .last) (q .1) (q .2) (q .3) (passed .pass .ensures)
+    end-weighed _ _ _ (q .0) (record { flat = refl; alone = refl }) (a .args .last) (q .1) (q .2) (q .3) (passed .pass .ensures)
 
 pub closed-total-spec : {M : Type 1} → statement M
 closed-total-spec =

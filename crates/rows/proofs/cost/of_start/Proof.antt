@@ -2,7 +2,7 @@
 use Prim.Native.Nat.{_+_, _*_, _<_, _≤_}
 use native.Mathlib.Omega.{arith}
 use borrow.Author.Needs.{needs}
-use Rattle.rows.proofs.Table.{in-table, square-small, read-places, start-alone, start-both}
+use Rattle.rows.proofs.Table.{in-table, square-small, no-places, start-alone, start-both}
 use Rattle.rows.proofs.cost.of_start.Statement.{statement}
 use Rattle.rows.proofs.cost.of_start.Tie as tie
 
@@ -14,14 +14,14 @@ small c =
 
 returns : tie.Need-returns
 returns c =
-    let home = c .before in
-    (start-alone _ _ (home .before .before .before .before .args .i) (c .if1 .taken) (home .of-closing .ensures .0), omega (arith, home .of-closing .ensures .1))
+    let home = c .before .before in
+    (start-alone _ _ (c .before .before .before .before .before .before .args .i) (no-places (c .before .before .before .before .before .before .pre .0) (c .if1 .taken)) (home .of-closing .ensures .0), omega (arith, home .of-closing .ensures .1))
 
 returns-2 : tie.Need-returns-2
 returns-2 c =
-    let home = c .before .before .before in
+    let home = c .before .before .before .before in
     let read = c .wide .ensures in
-    (start-both _ _ (home .before .before .before .before .args .i) (home .of-closing .ensures .0) (read .0), omega (arith, home .of-closing .ensures .1, read .1))
+    (start-both _ _ (c .before .before .before .before .before .before .before .before .args .i) (home .of-closing .ensures .0) (read .0), omega (arith, home .of-closing .ensures .1, read .1))
 
 pub of-start-spec : {M : Type 1} → statement M
 of-start-spec =
@@ -29,9 +29,9 @@ of-start-spec =
     (tie.spec
     (λ c κs. search needs)
     returns
-    (λ c. omega (arith, small (c .before .before .before .before .before)))
-    (λ c. omega (arith, small (c .before .before .before .before .before)))
-    (λ c. let at = c .before .before .before .before .before .before in omega (arith, small at, read-places (at .pre .0) (c .before .if1 .left) .extra))
+    (λ c. omega (arith, small (c .before .before .before .before .before .before)))
+    (λ c. omega (arith, small (c .before .before .before .before .before .before)))
+    (λ c. omega (arith, small (c .before .before .before .before .before .before .before), c .before .before .before .before .before .before .before .pre .0 .places (c .before .if1 .left) .extra))
     (λ c κs. search needs)
     (λ c. search needs)
     returns-2)

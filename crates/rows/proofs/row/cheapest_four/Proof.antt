@@ -5,7 +5,7 @@ use native.Mathlib.Omega.{arith}
 use borrow.Author.Needs.{needs}
 use Rattle.tree.specs.Block.{besideOf}
 use Rattle.rows.specs.Source.{costsOf}
-use Rattle.rows.proofs.Table.{stops-of}
+use Rattle.rows.proofs.Table.{stops-of, read-holding}
 use Rattle.rows.proofs.Columns.{Columns, column-light, columns-few, columns-none, columns-more, columns-all}
 use Rattle.rows.proofs.row.cheapest_four.Statement.{statement}
 use Rattle.rows.proofs.row.cheapest_four.Tie as tie
@@ -87,5 +87,5 @@ cheapest-four-spec =
     (λ c. omega (arith, below (c .before .before) .0, start (c .before .before .before) .pre .0 .small))
     (λ c. omega (arith, below (c .before .before) .1))
     loop-again
-    (λ c κs. let q = start (c .before) .pre in omega (arith, q .1 .1 .0 .5, q .0 .small))
+    (λ c κs. let q = start (c .before) .pre in (read-holding (q .0), omega (arith, q .1 .1 .0 .5, q .0 .small)))
     returns)

@@ -10,7 +10,7 @@ store-four-requires c κs =
     let q = c .before .before .before .before .before .before .before .before .before .before .pre in
     let n = q .1 .1 .0 in
     let k = c .before .before .any-four .ensures .0 in
-    let few = q .0 .small in (
+    let few = q .0 .0 .small in (
       (omega (arith, q .1 .0 .rows, n .5), omega (arith, q .1 .0 .marks, n .5), omega (arith, n .5, few)),
       record { a = omega (arith, k .a, n .6, few); b = omega (arith, k .b, n .6, few); c = omega (arith, k .c, n .6, few); d = omega (arith, k .d, n .6, few) },
     )

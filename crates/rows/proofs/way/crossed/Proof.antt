@@ -1,7 +1,7 @@
 -- `rows::way::crossed` meets its contract: the first two of the four have each other as the only candidate, and so have the other two.
 use native.Mathlib.Omega.{arith}
 use borrow.Author.Needs.{needs}
-use Rattle.rows.proofs.Table.{stops-of}
+use Rattle.rows.proofs.Table.{stops-of, read-holding}
 use Rattle.rows.proofs.Blocks.{beside-none}
 use Rattle.rows.proofs.way.crossed.Statement.{statement}
 use Rattle.rows.proofs.way.crossed.Tie as tie
@@ -10,15 +10,25 @@ use Rattle.rows.proofs.way.crossed.Tie as tie
 abbrev start : tie.After-crossed → tie.Start
 start c = c .before .before .before .before
 
+only-requires : tie.Need-only-requires
+only-requires c κs =
+    let q = start c .pre in
+    (read-holding (q .0), omega (arith, q .0 .small, q .1 .0 .3), q .1 .1 .b, omega (arith, c .crossed .ensures .a .small), q .1 .1 .a .count)
+
+only-requires-2 : tie.Need-only-requires-2
+only-requires-2 c κs =
+    let q = start (c .before) .pre in
+    (read-holding (q .0), omega (arith, q .0 .small, q .1 .0 .3), q .1 .1 .a, omega (arith, c .before .crossed .ensures .b .small), q .1 .1 .b .count)
+
 only-requires-3 : tie.Need-only-requires-3
 only-requires-3 c κs =
     let q = start (c .before .before) .pre in
-    (omega (arith, q .0 .small, q .1 .0 .3), q .1 .1 .d, omega (arith, c .before .before .crossed .ensures .c .small), q .1 .1 .c .count)
+    (read-holding (q .0), omega (arith, q .0 .small, q .1 .0 .3), q .1 .1 .d, omega (arith, c .before .before .crossed .ensures .c .small), q .1 .1 .c .count)
 
 only-requires-4 : tie.Need-only-requires-4
 only-requires-4 c κs =
     let q = start (c .before .before .before) .pre in
-    (omega (arith, q .0 .small, q .1 .0 .3), q .1 .1 .c, omega (arith, c .before .before .before .crossed .ensures .d .small), q .1 .1 .d .count)
+    (read-holding (q .0), omega (arith, q .0 .small, q .1 .0 .3), q .1 .1 .c, omega (arith, c .before .before .before .crossed .ensures .d .small), q .1 .1 .d .count)
 
 returns : tie.Need-returns
 returns c =
@@ -44,9 +54,9 @@ crossed-spec =
     tie.close
     (tie.spec
     (λ c κs. search needs)
-    (λ c κs. search needs)
+    only-requires
     (λ c. search needs)
-    (λ c κs. search needs)
+    only-requires-2
     (λ c. search needs)
     only-requires-3
     (λ c. omega (arith, start (c .before .before .before) .pre))

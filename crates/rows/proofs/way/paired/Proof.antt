@@ -1,7 +1,7 @@
 -- `rows::way::paired` meets its contract: the first two of the four have the other two as their candidates, and those the first two.
 use native.Mathlib.Omega.{arith}
 use borrow.Author.Needs.{needs}
-use Rattle.rows.proofs.Table.{stops-of}
+use Rattle.rows.proofs.Table.{stops-of, read-holding}
 use Rattle.rows.proofs.Blocks.{beside-one}
 use Rattle.rows.proofs.Ways.{stands-at, priced-at}
 use Rattle.rows.proofs.way.paired.Statement.{statement}
@@ -11,23 +11,28 @@ use Rattle.rows.proofs.way.paired.Tie as tie
 abbrev start : tie.After-paired2 → tie.Start
 start c = c .before .before .before .before .before
 
+of-two-requires : tie.Need-of-two-requires
+of-two-requires c κs =
+    let q = start c .pre in
+    (read-holding (q .0), omega (arith, q .0 .small, q .1 .0 .3), q .1 .1 .c, q .1 .1 .d, omega (arith, c .before .paired .ensures .a .small), omega (arith, c .paired2 .ensures .a .small), q .1 .1 .a .count)
+
 of-two-requires-2 : tie.Need-of-two-requires-2
 of-two-requires-2 c κs =
     let at = c .before in
     let q = start at .pre in
-    (omega (arith, q .0 .small, q .1 .0 .3), q .1 .1 .c, q .1 .1 .d, omega (arith, at .before .paired .ensures .b .small), omega (arith, at .paired2 .ensures .b .small), q .1 .1 .b .count)
+    (read-holding (q .0), omega (arith, q .0 .small, q .1 .0 .3), q .1 .1 .c, q .1 .1 .d, omega (arith, at .before .paired .ensures .b .small), omega (arith, at .paired2 .ensures .b .small), q .1 .1 .b .count)
 
 of-two-requires-3 : tie.Need-of-two-requires-3
 of-two-requires-3 c κs =
     let at = c .before .before in
     let q = start at .pre in
-    (omega (arith, q .0 .small, q .1 .0 .3), q .1 .1 .a, q .1 .1 .b, omega (arith, at .before .paired .ensures .c .small), omega (arith, at .paired2 .ensures .c .small), q .1 .1 .c .count)
+    (read-holding (q .0), omega (arith, q .0 .small, q .1 .0 .3), q .1 .1 .a, q .1 .1 .b, omega (arith, at .before .paired .ensures .c .small), omega (arith, at .paired2 .ensures .c .small), q .1 .1 .c .count)
 
 of-two-requires-4 : tie.Need-of-two-requires-4
 of-two-requires-4 c κs =
     let at = c .before .before .before in
     let q = start at .pre in
-    (omega (arith, q .0 .small, q .1 .0 .3), q .1 .1 .a, q .1 .1 .b, omega (arith, at .before .paired .ensures .d .small), omega (arith, at .paired2 .ensures .d .small), q .1 .1 .d .count)
+    (read-holding (q .0), omega (arith, q .0 .small, q .1 .0 .3), q .1 .1 .a, q .1 .1 .b, omega (arith, at .before .paired .ensures .d .small), omega (arith, at .paired2 .ensures .d .small), q .1 .1 .d .count)
 
 returns : tie.Need-returns
 returns c =
@@ -95,7 +100,7 @@ paired-spec =
     (λ c. search needs)
     (λ c. search needs)
     (λ c κs. search needs)
-    (λ c κs. search needs)
+    of-two-requires
     (λ c. omega (arith, start (c .before) .pre))
     of-two-requires-2
     (λ c. omega (arith, start (c .before .before) .pre))
