@@ -1,23 +1,21 @@
 -- The two plans of a fork's cost: what each writes, and that they are the returned order and the opposite one.
-use mathlib.Core.Path.{_≡_, refl, sym, ap, ap₂, subst, fun-ext, _∙_}
-use mathlib.Core.Bool.{Bool, true, false, cond}
+use mathlib.Core.Path.{_≡_, refl, sym, ap, ap₂, _∙_}
+use mathlib.Core.Bool.{Bool, true, false}
 use mathlib.Core.List.{List, [], _++_, append-nil}
-use Prim.Native.Nat.{ℕ, zero, suc, _+_, _-_, _*_, _%_, _^_, _≤_, _<_}
+use Prim.Native.Nat.{ℕ, zero, suc, _+_, _-_, _^_, _≤_, _<_}
 use native.Mathlib.Omega.{arith}
 use lib.Dec.{eqb}
 use lib.ListN.{length, take, drop, length-drop, length-append}
 use lib.Seq.{take-at, length-take-le, drop-drop, drop-length, drop-append-seam}
 use lib.Pow.{pow-pos}
-use borrow.Author.Tests.{eq-eqb, ne-eqb}
 use Rattle.base.specs.Outcome.{Outcome, gives, value, over}
 use Rattle.base.proofs.Outcome.{over-whole}
-use Rattle.tree.specs.Fork.{bit}
 use Rattle.tree.specs.Total.{total}
-use Rattle.tree.specs.Wanted.{wanted, every}
+use Rattle.tree.specs.Wanted.{wanted}
 use Rattle.tree.proofs.Open.{wanted-allowed, length-wanted}
 use Rattle.costs.specs.Costs.{held}
 use Rattle.costs.proofs.Other.{held-dearer}
-use Rattle.orders.specs.Allowed.{isAllowed, forksOf}
+use Rattle.orders.specs.Allowed.{isAllowed}
 use Rattle.orders.specs.Lent.{orderIn}
 use Rattle.orders.proofs.Allowed.{isAllowed-iff}
 use Rattle.planner.specs.declared.Ordered.{Ordered}

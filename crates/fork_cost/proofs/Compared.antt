@@ -1,7 +1,7 @@
 -- What is told of two orders, and where they part.
-use mathlib.Core.Path.{_≡_, refl, sym, ap, ap₂, _∙_}
+use mathlib.Core.Path.{_≡_, sym, ap, ap₂, _∙_}
 use mathlib.Core.Bool.{Bool, true, false, cond}
-use mathlib.Core.List.{List, _++_}
+use mathlib.Core.List.{List}
 use Prim.Native.Nat.{ℕ, zero, suc, _+_, _-_, _/_, _%_, _^_, _≤_, _<_}
 use native.Mathlib.Numerals.{add-one}
 use native.Mathlib.Omega.{arith}
@@ -11,14 +11,14 @@ use lib.Seq.{take-at, drop-at, getD-take, getD-drop}
 use borrow.Author.Tests.{ne-eqb}
 use Rattle.base.specs.Outcome.{gives, over}
 use Rattle.records.proofs.FieldLaws.{length-bytesOf}
-use Rattle.orders.specs.Bits.{byteCount, bitString, stringBit}
+use Rattle.orders.specs.Bits.{byteCount, bitString}
 use Rattle.orders.proofs.Bits.{bit-string}
 use Rattle.tree.specs.Fork.{bit}
 use Rattle.tree.specs.Neighbour.{inPlace}
 use Rattle.tree.specs.Total.{total}
 use Rattle.fork_cost.specs.declared.ForkCost.{ForkCost}
 use Rattle.fork_cost.specs.declared.plans.Both.{Both}
-use Rattle.fork_cost.specs.Cost.{Cost, dearer, tie, returned, stateIn, opposite, lastApart, reasonFor, compared, costOf, said}
+use Rattle.fork_cost.specs.Cost.{Cost, dearer, tie, returned, opposite, lastApart, compared, costOf, said}
 use Rattle.fork_cost.specs.Local.{BothLeft, CostLeft, costFrom}
 use Rattle.fork_cost.proofs.Both.{returned-long, both-long}
 

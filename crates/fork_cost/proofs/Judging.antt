@@ -1,20 +1,16 @@
 -- The call, from the path's judgement on: what it promises after each refusal, and after success.
-use mathlib.Core.Path.{_≡_, refl, sym, ap, ap₂, _∙_}
-use mathlib.Core.Bool.{Bool, true, false}
+use mathlib.Core.Path.{_≡_, sym, ap, ap₂, _∙_}
 use mathlib.Core.List.{List, _++_}
 use Prim.Native.Nat.{ℕ, _+_, _/_, _^_, _≤_, _<_, min}
 use native.Mathlib.Nat.{min-le-left, min-le-right, le-min}
 use native.Mathlib.Decide.{decLe}
 use native.Mathlib.Omega.{arith}
-use lib.ListN.{length, drop, replicate, length-replicate}
+use lib.ListN.{length, drop, length-replicate}
 use borrow.Author.Tests.{le-leb, lt-leb, leb-true}
-use Rattle.base.specs.Refusal.{wrongSize, noSuchFork}
+use Rattle.base.specs.Refusal.{wrongSize}
 use Rattle.base.specs.Outcome.{gives, refuses, number}
 use Rattle.base.proofs.Outcome.{passed}
 use Rattle.path.specs.Path.{path, readPath, stopsIn}
-use Rattle.times.specs.Table.{entryOf}
-use Rattle.planner.specs.Plan.{cleared}
-use Rattle.screen.specs.Records.{isFork}
 use Rattle.screen.specs.Screen.{placesRoom}
 use Rattle.screen.proofs.Screen.{places-few, places-good, places-long}
 use Rattle.screen.proofs.Records.{fork-in, fork-out}

@@ -9,7 +9,6 @@ use base::NO_SUCH_FORK;
 use base::stop_count;
 use screen::fewer;
 use screen::judge_path;
-ghost use mathlib.Core.Path.{_≡_};
 ghost use Rattle.fork_cost.specs.Cost.{GivesCost};
 
 // What is told of a fork: its state in the returned order, 1 for exchanged, and the least total of the orders that have it the other way. That is so much more than

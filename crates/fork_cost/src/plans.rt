@@ -17,7 +17,7 @@ ghost use Rattle.base.specs.Buffer.{atEntry, atExit};
 ghost use Rattle.planner.specs.Places.{orderSaid};
 ghost use Rattle.orders.specs.Allowed.{isAllowed};
 ghost use Rattle.orders.specs.Lent.{orderIn};
-ghost use Rattle.fork_cost.specs.Cost.{stateIn, lastApart, reasonFor, said};
+ghost use Rattle.fork_cost.specs.Cost.{stateIn, lastApart, said};
 ghost use Rattle.fork_cost.specs.Local.{Judged, timesOf, planOf, OrderLeft, BothLeft, CostLeft, costFrom};
 
 // The fork's state in the returned order, the total of that order and of the best one that has the fork the other way.

@@ -2,9 +2,9 @@
 use mathlib.Core.Path.{_≡_, sym, ap, ap₂, fun-ext, _∙_}
 use mathlib.Core.Bool.{Bool}
 use mathlib.Core.List.{List}
-use Prim.Native.Nat.{ℕ, _+_, _*_, _-_, _^_, _≤_}
+use Prim.Native.Nat.{ℕ, _+_, _-_, _^_, _≤_}
 use native.Mathlib.Omega.{arith}
-use lib.ListN.{length, replicate}
+use lib.ListN.{replicate}
 use Rattle.walks.specs.Best.{at, plan}
 use Rattle.walks.specs.Halves.{segment}
 use Rattle.tree.specs.Layers.{layers}

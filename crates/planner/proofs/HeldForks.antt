@@ -1,13 +1,12 @@
 -- M-101: A FORK HELD IN A STATE, by the bytes of a path. What fits a place is the admissible pairs of costs, so the walks are those of the graph that draws the
 -- total of the sets that hold the fork, and the best one is the order that is wanted among them.
 use mathlib.Core.Path.{_≡_, refl, sym, ap, ap₂, subst, _∙_}
-use mathlib.Core.Bool.{Bool, true, false, cond}
+use mathlib.Core.Bool.{Bool, true, false}
 use mathlib.Core.List.{List}
-use Prim.Native.Nat.{ℕ, zero, suc, _+_, _*_, _-_, _/_, _%_, _^_, _≤_, _<_}
+use Prim.Native.Nat.{ℕ, zero, suc, _+_, _*_, _-_, _/_, _^_, _≤_, _<_}
 use native.Mathlib.Nat.{mul-add-div-right, mul-le-mul-right, mul-comm, mul-assoc, le-of-mul-le-mul-right, lt-of-mul-lt-mul-right}
 use native.Mathlib.Decide.{decLt}
 use native.Mathlib.Omega.{arith}
-use lib.Dec.{eqb}
 use lib.ListN.{length, replicate}
 use lib.Pow.{pow-pos, pow-mono, pow-add}
 use borrow.Author.Tests.{ne-eqb}
@@ -19,11 +18,11 @@ use Rattle.path.specs.Path.{stopsIn}
 use Rattle.times.specs.InPath.{timeIn}
 use Rattle.times.specs.Table.{entryOf}
 use Rattle.times.proofs.InPath.{time-in-path}
-use Rattle.tree.specs.Fork.{bit, forkAbove}
-use Rattle.tree.specs.Layers.{layers, anywhere, openGraph}
+use Rattle.tree.specs.Fork.{forkAbove}
+use Rattle.tree.specs.Layers.{layers}
 use Rattle.tree.specs.Order.{orderOf}
 use Rattle.tree.specs.Total.{entry, total}
-use Rattle.tree.specs.Wanted.{wanted, every, backward, Settled}
+use Rattle.tree.specs.Wanted.{wanted, backward, Settled}
 use Rattle.tree.proofs.Backward.{backward-same}
 use Rattle.tree.proofs.Compare.{wanted-alike}
 use Rattle.tree.proofs.Diagonal.{total-same}

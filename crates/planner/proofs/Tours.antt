@@ -1,9 +1,9 @@
 -- M-104: the method for tours. Each last stop is weighed by the last row of a pass of its own; the order that is then solved for the least of them is
 -- the wanted tour.
-use mathlib.Core.Path.{_≡_, refl, sym, ap, ap₂, subst, fun-ext, _∙_}
+use mathlib.Core.Path.{_≡_, refl, sym, ap, ap₂, subst, _∙_}
 use mathlib.Core.Bool.{Bool, true, false, cond}
 use mathlib.Core.List.{List, [], _∷_}
-use Prim.Native.Nat.{ℕ, zero, suc, _+_, _*_, _-_, _^_, _≤_, _<_}
+use Prim.Native.Nat.{ℕ, zero, suc, _+_, _-_, _^_, _≤_, _<_}
 use native.Mathlib.Numerals.{add-one}
 use native.Mathlib.Omega.{arith}
 use lib.Dec.{ltb}
@@ -26,14 +26,13 @@ use Rattle.costs.specs.Ends.{bestEnd}
 use Rattle.costs.proofs.Ends.{ends-more, TourEnd, tour-end}
 use Rattle.costs.proofs.Tour.{tour-long, tour-one}
 use Rattle.rows.specs.declared.Costs.{Costs}
-use Rattle.rows.specs.Costing.{Costing}
 use Rattle.rows.specs.Source.{Sources, costsOf, Readable}
-use Rattle.rows.specs.Row.{unreached, TwoRows}
+use Rattle.rows.specs.Row.{unreached}
 use Rattle.rows.specs.Pass.{PassReady, PassMade}
 use Rattle.times.proofs.InPath.{time-nowhere}
 use Rattle.rows.proofs.Table.{stops-of, entry-none, fits-of, fits-all, start-of, weight-of, readable-table}
 use Rattle.planner.specs.declared.halve.Choice.{Choice}
-use Rattle.planner.specs.Method.{allWalks, LentSizes, HoldsStops, LastReached, BlockSolved}
+use Rattle.planner.specs.Method.{allWalks, LastReached, BlockSolved}
 use Rattle.planner.specs.Tour.{TourSizes, toursTo, EndWeighed, EndHeld, TourWritten}
 use Rattle.planner.proofs.Halving.{whole-block}
 use Rattle.planner.proofs.ByTable.{walks-layers, layers-same}

@@ -1,5 +1,4 @@
 -- M-101: planning by the times between the stops of a path, where a fork may be held in a state; and what the private functions promise.
-use mathlib.Core.Path.{_≡_}
 use mathlib.Core.Bool.{Bool, true, cond}
 use mathlib.Core.List.{List}
 use Prim.Native.Nat.{ℕ, zero, suc, _+_, _*_, _^_, _≤_, _<_}

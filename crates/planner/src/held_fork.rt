@@ -1,7 +1,6 @@
 // A fork that is held in a state: how far down in the tree its sides begin.
 
 ghost use mathlib.Core.Path.{_≡_};
-ghost use mathlib.Core.Bool.{Bool};
 ghost use Prim.Native.Nat.{_≤_, _<_};
 ghost use Rattle.planner.specs.HeldFork.{LevelOf, stateOf};
 

@@ -18,7 +18,7 @@ ghost use Rattle.tree.specs.Neighbour.{trail, mayFollow};
 ghost use Rattle.tree.specs.Block.{besideOf};
 ghost use Rattle.rows.specs.Source.{heldSources, Readable, ReadBy, lentCosts};
 ghost use Rattle.rows.specs.Row.{next, firstRow, Row, SomeRow, Kept, TwoRows};
-ghost use Rattle.rows.specs.Way.{Leads, Loaded, Written, EachFour, InFour, threeOn, MakesRow, MakesRows};
+ghost use Rattle.rows.specs.Way.{Leads, Loaded, Written, EachFour, InFour, MakesRow, MakesRows};
 ghost use Rattle.rows.specs.Pass.{BlockClosed};
 
 // 2^m.

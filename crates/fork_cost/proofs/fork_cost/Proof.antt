@@ -1,6 +1,6 @@
 -- `fork_cost::fork_cost` meets its contract: the path with its lengths, the fork, and then what both plans tell.
-use mathlib.Core.Path.{_≡_, sym, ap, ap₂, _∙_}
-use Prim.Native.Nat.{ℕ, _+_, _/_, _^_, _≤_, _<_, min}
+use mathlib.Core.Path.{_≡_, sym, ap, _∙_}
+use Prim.Native.Nat.{_+_, _/_, _^_, _≤_, min}
 use native.Mathlib.Omega.{arith}
 use lib.ListN.{length}
 use lib.Seq.{length-take-le}

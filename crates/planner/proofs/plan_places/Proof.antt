@@ -9,7 +9,6 @@ use Rattle.base.proofs.Outcome.{refused}
 use Rattle.base.proofs.Size.{stopCount-pow, pow-le-1024}
 use Rattle.rows.specs.declared.Costs.{Costs}
 use Rattle.rows.proofs.Table.{readable-places}
-use Rattle.tree.specs.Total.{entry}
 use Rattle.costs.proofs.Placed.{placed-long}
 use Rattle.planner.specs.Places.{placesRoom}
 use Rattle.planner.proofs.Places.{PlacesFit, places-judged}

@@ -1,10 +1,8 @@
 -- `fork_cost::plans::compare` meets its contract: both plans, the place where they part, and what is told.
 use mathlib.Core.Path.{_≡_, sym, ap, _∙_}
-use Prim.Native.Nat.{_+_, _^_, _≤_}
+use Prim.Native.Nat.{_+_, _^_}
 use native.Mathlib.Omega.{arith}
-use lib.ListN.{length}
 use borrow.Author.Needs.{needs}
-use Rattle.base.specs.Outcome.{gives}
 use Rattle.base.proofs.Size.{stopCount-pow, pow-le-1024}
 use Rattle.fork_cost.specs.Local.{timesOf}
 use Rattle.fork_cost.proofs.Both.{opposite-dearer, both-long}

@@ -1,5 +1,5 @@
 -- `fork_cost::plans::cost_from` meets its contract.
-use mathlib.Core.Path.{sym, ap}
+use mathlib.Core.Path.{ap}
 use borrow.Author.Needs.{needs}
 use Rattle.base.specs.Outcome.{gives}
 use Rattle.fork_cost.specs.Cost.{said}

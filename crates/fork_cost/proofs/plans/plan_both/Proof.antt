@@ -1,8 +1,7 @@
 -- `fork_cost::plans::plan_both` meets its contract: the first plan is the returned order, its fork's state is read, and the second plan is the opposite one.
-use mathlib.Core.Path.{_≡_, refl, sym, ap, ap₂, _∙_}
 use native.Mathlib.Omega.{arith}
 use borrow.Author.Needs.{needs}
-use Rattle.fork_cost.proofs.Both.{front-order, front-allowed, both-left}
+use Rattle.fork_cost.proofs.Both.{front-allowed, both-left}
 use Rattle.fork_cost.proofs.plans.plan_both.Statement.{statement}
 use Rattle.fork_cost.proofs.plans.plan_both.Tie as tie
 

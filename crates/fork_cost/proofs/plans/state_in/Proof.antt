@@ -1,15 +1,9 @@
 -- `fork_cost::plans::state_in` meets its contract: the bit of the order's fork string.
-use mathlib.Core.Path.{_≡_, refl, sym, ap, _∙_}
-use Prim.Native.Nat.{_%_, _/_, _^_, _≤_}
 use native.Mathlib.Omega.{arith}
-use lib.ListN.{getD}
 use borrow.Author.Needs.{needs}
 use Rattle.base.proofs.Size.{pow-le-1024}
-use Rattle.orders.specs.Bits.{byteCount, bitString, stringBit}
-use Rattle.orders.specs.Allowed.{forksOf}
-use Rattle.orders.specs.Lent.{JudgedOrder, orderIn}
+use Rattle.orders.specs.Lent.{JudgedOrder}
 use Rattle.orders.proofs.Allowed.{allowed-below, forksOf-gives}
-use Rattle.orders.proofs.Bits.{bit-string}
 use Rattle.orders.proofs.Calls.{bits-when}
 use Rattle.fork_cost.proofs.Compared.{front-bit}
 use Rattle.fork_cost.proofs.plans.state_in.Statement.{statement}

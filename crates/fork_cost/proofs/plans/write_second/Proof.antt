@@ -1,9 +1,7 @@
 -- `fork_cost::plans::write_second` meets its contract.
 use mathlib.Core.Path.{_≡_, _∙_}
-use Prim.Native.Nat.{_+_, _^_, _≤_}
+use Prim.Native.Nat.{_^_, _≤_}
 use native.Mathlib.Omega.{arith}
-use lib.ListN.{length, length-drop}
-use lib.Seq.{length-take-le}
 use borrow.Author.Needs.{needs}
 use Rattle.base.proofs.Size.{stopCount-pow, pow-le-1024}
 use Rattle.fork_cost.proofs.Both.{behind-left, behind-long}

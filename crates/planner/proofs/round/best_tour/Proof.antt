@@ -1,8 +1,8 @@
 -- `planner::round::best_tour` meets its contract: the best last stop is written, and the places before it are solved.
 use mathlib.Core.Path.{_≡_, refl, sym, _∙_}
-use Prim.Native.Nat.{ℕ, _-_, _<_}
+use Prim.Native.Nat.{_-_}
 use native.Mathlib.Omega.{arith}
-use lib.ListN.{length, set, length-set}
+use lib.ListN.{length, set}
 use borrow.Author.Needs.{needs}
 use Rattle.planner.specs.Method.{HoldsStops}
 use Rattle.planner.proofs.Stores.{zeroed-stops, set-order}

@@ -1,5 +1,5 @@
 -- `rows::cost::of_start` meets its contract: the move from the closing stop, and the entry of place 0.
-use Prim.Native.Nat.{_+_, _*_, _<_, _≤_}
+use Prim.Native.Nat.{_*_, _<_, _≤_}
 use native.Mathlib.Omega.{arith}
 use borrow.Author.Needs.{needs}
 use Rattle.rows.proofs.Table.{in-table, square-small, no-places, start-alone, start-both}
