@@ -2,6 +2,9 @@
 //
 // What is printed is `all_orders_output::output_for` of the bytes that are read: at most one byte more than the longest accepted path has,
 // since more bytes cannot change the output (the law `longer-same` of `all_orders_output`).
+
+#![tactic(auto)]
+
 use all_orders_output::ENOUGH_INPUT;
 
 fn main() {

@@ -2,6 +2,9 @@
 // a refusal.
 //
 // `output_for` is the one public function and has no `requires`. The output is a value: it needs no lent buffer.
+
+#![tactic(auto)]
+
 mod lines;
 mod put;
 mod text;
@@ -27,7 +30,7 @@ pub const LONGEST_TEXT: usize = 3_584;
 pub const ENOUGH_INPUT: usize = 189;
 
 // The first `count` bytes are the output.
-#[derive(Drop)]
+#[derive(Clone, Copy)]
 pub struct Output {
     pub bytes: [u8; LONGEST_TEXT],
     pub count: usize,

@@ -4,6 +4,8 @@
 // the count of bytes written, 0 for a good check, or the refusal's number made negative. A refusal touches nothing; after success the
 // output holds the result first and is untouched beyond. No public function has a `requires`.
 
+#![tactic(auto)]
+
 ghost use Rattle.std.specs.Prelude.{◌≡◌};
 ghost use Rattle.base.specs.Buffer.{at_entry};
 ghost use Rattle.cell.specs.Cell.{CellPlans, cell_check, CellRewrites};

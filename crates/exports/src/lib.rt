@@ -2,6 +2,9 @@
 //
 // Each exported function is the call of the same name with a signed result: what the call gives, or the refusal's number made negative.
 // Exported names begin with `ffi`. No exported function has a `requires`, and each keeps all that the call behind it promises.
+
+#![tactic(auto)]
+
 mod packed;
 
 ghost use Rattle.std.specs.Prelude.{◌≡◌};

@@ -6,14 +6,14 @@ ghost use Rattle.walks.specs.Rows.{turn};
 ghost use Rattle.filled.specs.Row.{unreached, standing, through, least_in};
 
 // A total, and the stop that it leads from.
-#[derive(Drop)]
+#[derive(Clone, Copy)]
 pub struct Choice {
     pub total: u64,
     pub stop: usize,
 }
 
 // What is held for two neighbouring stops.
-#[derive(Drop)]
+#[derive(Clone, Copy)]
 pub struct Two {
     pub one: Choice,
     pub other: Choice,

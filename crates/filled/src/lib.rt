@@ -3,6 +3,9 @@
 // `plan_filled` is the one public function and has no `requires`. Its contract cites `specs/Filled.antt` and, through it, the list that is
 // wanted by plain enumeration and its forks. The private modules hold the method: `tray` knows which stops are filled, `choice` weighs
 // candidates, `row` makes the table by places, `walk` reads the list off it, `fork` reads the forks off the list.
+
+#![tactic(auto)]
+
 mod choice;
 mod fork;
 mod row;
@@ -22,7 +25,7 @@ use tray::Tray;
 pub const MAX_FILLED_K: u16 = 6;
 
 // What planning answers: the total and the length of the list that was written, or the refusal's number.
-#[derive(Drop)]
+#[derive(Clone, Copy)]
 pub enum ListPlanned {
     Done(u64, usize),
     Refused(u16),

@@ -8,7 +8,7 @@ use crate::choice::{Two, UNREACHED, cheapest_two, time_of};
 use crate::tray::{Tray, beside_filled, both_filled, group_beside, is_filled};
 
 // The totals of two neighbouring stops.
-#[derive(Drop)]
+#[derive(Clone, Copy)]
 struct Totals {
     one: u64,
     other: u64,

@@ -7,7 +7,7 @@ ghost use Rattle.filled.specs.Table.{beside_filled};
 ghost use Rattle.filled.specs.Row.{in_set, filled_of};
 
 // The tree of n = 2^k stops, and which of them are filled: bit i of `filled` is stop i.
-#[derive(Drop)]
+#[derive(Clone, Copy)]
 pub struct Tray {
     pub k: u16,
     pub n: usize,
@@ -39,7 +39,7 @@ fn some_filled(filled: u64, first: usize, size: usize) -> bool
 }
 
 // An aligned block of stops: its first, and how many.
-#[derive(Drop)]
+#[derive(Clone, Copy)]
 pub struct Group {
     pub first: usize,
     pub size: usize,

@@ -3,6 +3,9 @@
 //
 // `fork_cost` is the one public function and has no `requires`; `specs/Cost.antt` says what it tells. No table is made: both orders are planned by the times
 // between the stops in the path's bytes.
+
+#![tactic(auto)]
+
 mod plans;
 
 ghost use Rattle.fork_cost.specs.Cost.{GivesCost};
@@ -12,7 +15,7 @@ use screen::{fewer, judge_path};
 
 // What is told of a fork: its state in the returned order, 1 for exchanged, and the least total of the orders that have it the other way. That is so much more than
 // the returned one; or it is the same, and `place` is the last place at which the two orders part. Or the refusal's number.
-#[derive(Drop)]
+#[derive(Clone, Copy)]
 pub enum ForkCost {
     Dearer { state: u16, total: u64, more: u64 },
     Tie { state: u16, total: u64, place: u16 },

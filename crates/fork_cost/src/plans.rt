@@ -15,7 +15,7 @@ use orders::fork_bits;
 use planner::{Ordered, plan_held, zero_stops};
 
 // The fork's state in the returned order, the total of that order and of the best one that has the fork the other way.
-#[derive(Drop)]
+#[derive(Clone, Copy)]
 pub struct Both {
     pub state: u16,
     pub total: u64,

@@ -2,6 +2,9 @@
 //
 // Each job takes k up to 6, keeps its work space to itself and answers an enum. The path's head is judged once, the job's own test of k
 // comes directly after it, and every stop is judged once before anything is written. No public function has a `requires`.
+
+#![tactic(auto)]
+
 mod check;
 mod plan;
 
@@ -19,7 +22,7 @@ use path::{PathWritten, judge_head};
 const JOB_MAX_K: u16 = 6;
 
 // Whether an order file is good, or the refusal's number.
-#[derive(Drop)]
+#[derive(Clone, Copy)]
 pub enum FileChecked {
     Good,
     Refused(u16),

@@ -4,6 +4,9 @@
 // other mark means that nothing is kept. What is kept belongs to one path; for a new one the caller clears the marks.
 //
 // No public function has a `requires`. A refusal gives its number and touches no lent buffer. There is no work space.
+
+#![tactic(auto)]
+
 mod judge;
 mod store;
 

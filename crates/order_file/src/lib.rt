@@ -2,6 +2,9 @@
 //
 // No public function has a `requires`. A refusal gives its number and touches no lent buffer; after success an output holds the
 // result first and is untouched beyond.
+
+#![tactic(auto)]
+
 mod check;
 mod place;
 mod put;
@@ -15,14 +18,14 @@ pub use place::file_size;
 use records::field64;
 
 // The count of bytes written, or the refusal's number.
-#[derive(Drop)]
+#[derive(Clone, Copy)]
 pub enum FileWritten {
     Wrote(u64),
     Refused(u16),
 }
 
 // The total of the file, or the refusal's number.
-#[derive(Drop)]
+#[derive(Clone, Copy)]
 pub enum FileRead {
     Read { total: u64 },
     Refused(u16),

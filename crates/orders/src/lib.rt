@@ -2,6 +2,9 @@
 //
 // No public function has a `requires`. A refusal gives its number and touches no lent buffer; after success an output holds the
 // result first and is untouched beyond.
+
+#![tactic(auto)]
+
 mod exchanges;
 mod forks;
 mod judge;
@@ -22,21 +25,21 @@ pub use judge::judge_lent;
 pub use sum::sum_moves;
 
 // The fork bits were written, or the refusal's number.
-#[derive(Drop)]
+#[derive(Clone, Copy)]
 pub enum BitsMade {
     Made,
     Refused(u16),
 }
 
 // The order was written, or the refusal's number.
-#[derive(Drop)]
+#[derive(Clone, Copy)]
 pub enum OrderMade {
     Made,
     Refused(u16),
 }
 
 // The total of an order, or the refusal's number.
-#[derive(Drop)]
+#[derive(Clone, Copy)]
 pub enum OrderTotal {
     Total(u64),
     Refused(u16),

@@ -2,6 +2,9 @@
 //
 // No public function has a `requires`. What path bytes mean is `read_path` of `specs/Path.antt`; what a path is written as is `path_bytes`
 // of `specs/Written.antt`.
+
+#![tactic(auto)]
+
 mod bytes;
 mod fill;
 mod judge;
@@ -18,7 +21,7 @@ pub use rewrite::rewrite_path;
 pub use write::write_path;
 
 // A judged head: `refused` 0, the version and k, or the refusal's number and zeros.
-#[derive(Drop)]
+#[derive(Clone, Copy)]
 pub struct Head {
     pub refused: u16,
     pub version: u16,
@@ -26,14 +29,14 @@ pub struct Head {
 }
 
 // What reading a path answers.
-#[derive(Drop)]
+#[derive(Clone, Copy)]
 pub enum PathRead {
     Read { version: u16, k: u16 },
     Refused(u16),
 }
 
 // What writing a path answers: the count of bytes written, or the refusal's number.
-#[derive(Drop)]
+#[derive(Clone, Copy)]
 pub enum PathWritten {
     Wrote(u64),
     Refused(u16),

@@ -2,6 +2,8 @@
 //
 // `plan_path` is the one public function and has no `requires`. Its contract has demand 3, whole, as its claim; `specs/Claim.antt` says it.
 
+#![tactic(auto)]
+
 ghost use Rattle.std.specs.Prelude.{◌≡◌};
 ghost use Rattle.path_plan.specs.Local.{with_heading};
 ghost use Rattle.path_plan.specs.PathPlan.{PlansPath};
@@ -11,7 +13,7 @@ use planner::Planned;
 use times::TableMade;
 
 // What planning a path answers: its version, k and the total of the order that was written, or the refusal's number.
-#[derive(Drop)]
+#[derive(Clone, Copy)]
 pub enum PathPlanned {
     Done { version: u16, k: u16, total: u64 },
     Refused(u16),

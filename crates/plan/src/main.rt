@@ -2,6 +2,9 @@
 //
 // What is written is `plan_output::output_for` of the bytes that are read: at most one byte more than the longest accepted path has, since
 // more bytes cannot change the output (the law `longer-same` of `plan_output`).
+
+#![tactic(auto)]
+
 use plan_output::ENOUGH_INPUT;
 
 fn main() {

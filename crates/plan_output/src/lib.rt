@@ -1,6 +1,9 @@
 // What the program writes for the bytes that it reads: the order file of a path, or one kind 7 record.
 //
 // No public function has a `requires`. The output is a value: it needs no lent buffer.
+
+#![tactic(auto)]
+
 ghost use Rattle.std.specs.Prelude.{◌≡◌, ◌≤◌, length};
 ghost use Rattle.base.specs.Buffer.{at_entry, at_exit};
 ghost use Rattle.records.specs.Put.{put};
@@ -23,7 +26,7 @@ pub const ENOUGH_INPUT: usize = 1_421;
 const REFUSED_SIZE: usize = 6;
 
 // The first `count` bytes are the output.
-#[derive(Drop)]
+#[derive(Clone, Copy)]
 pub struct Output {
     pub bytes: [u8; LONGEST_FILE],
     pub count: usize,

@@ -3,6 +3,9 @@
 // No public function has a `requires`. The contract of `plan` cites `specs/Plan.antt` and, through it, the order that is wanted by
 // plain enumeration. The private module `halve` holds the method, halving the places by recursion, for any costs by place; the rows of best
 // totals are made by the crate `rows`. `plan` is the instance whose costs come from a table.
+
+#![tactic(auto)]
+
 mod clear;
 mod halve;
 mod held_fork;
@@ -24,21 +27,21 @@ pub use clear::zero_stops;
 const MAX_TOUR_K: u16 = 7;
 
 // What planning answers: the total of the order that was written and the number of weighings, or the refusal's number.
-#[derive(Drop)]
+#[derive(Clone, Copy)]
 pub enum Planned {
     Done { total: u64, weighings: u64 },
     Refused(u16),
 }
 
 // What planning by other costs answers: the total of the order that was written, or the refusal's number.
-#[derive(Drop)]
+#[derive(Clone, Copy)]
 pub enum Ordered {
     Done(u64),
     Refused(u16),
 }
 
 // What a plan takes: bytes of lent work space and weighings, or the refusal's number.
-#[derive(Drop)]
+#[derive(Clone, Copy)]
 pub enum Foretold {
     Takes { bytes: u64, weighings: u64 },
     Refused(u16),

@@ -3,6 +3,9 @@
 // No public function has a `requires`. What one draw gives, and where it leaves the cursor, is `step_at` of `specs/Draws.antt`, for every
 // cursor, version and bytes. That draw d from the start of some bytes is `draw_at` of the paths' definitions is the law `draws-are`, that
 // an answer which is no stop is repeated is `draws-repeat` (`proofs/DrawsLaws.antt`), and `reader-draws` says it of a `Reader`.
+
+#![tactic(auto)]
+
 mod draws;
 
 ghost use Rattle.std.specs.Prelude.{◌≡◌};
@@ -22,7 +25,7 @@ pub const THE_END: u16 = 1;
 pub const A_REFUSAL: u16 = 2;
 
 // What a draw answers: a verdict with the stop, or with the refusal's number; zero in every other field.
-#[derive(Drop)]
+#[derive(Clone, Copy)]
 pub struct Drawn {
     pub verdict: u16,
     pub number: u16,
@@ -30,7 +33,7 @@ pub struct Drawn {
 }
 
 // What a draw leaves: its answer, and the cursor and the version for the next draw.
-#[derive(Drop)]
+#[derive(Clone, Copy)]
 pub struct Step {
     pub drawn: Drawn,
     pub at: usize,
@@ -39,7 +42,7 @@ pub struct Step {
 
 // The stops of a path, drawn one after another: the bytes, the cursor and the version. The cursor is 0 before the first draw, with the
 // highest known version beside it; after a stop it is where the next record begins, with the path's version.
-#[derive(Drop)]
+#[derive(Clone, Copy)]
 pub struct Reader<'a> {
     pub src: &'a [u8],
     pub at: usize,

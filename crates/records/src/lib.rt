@@ -1,6 +1,9 @@
 // Fields and records: numbers in little-endian bytes, the seven kinds of record and their lengths.
 //
 // No public function has a `requires`: a byte that is not there counts as 0, and what does not fit whole is not written.
+
+#![tactic(auto)]
+
 mod field;
 mod record;
 

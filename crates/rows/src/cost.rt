@@ -8,7 +8,7 @@ ghost use Rattle.rows.specs.Way.{Priced, CrossedMoves, PairedMoves, FourMoves};
 use crate::{BY_PATH, BY_PLACES, BY_TABLE, Costs};
 
 // What four moves cost.
-#[derive(Drop)]
+#[derive(Clone, Copy)]
 pub struct Moves {
     pub a: u64,
     pub b: u64,

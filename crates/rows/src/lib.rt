@@ -4,6 +4,9 @@
 // No public function has a `requires`. The contract of `pass` cites `specs/Pass.antt` and, through it, the best walks of `walks`. What a move costs is
 // read in `cost` alone; `way` weighs candidates for up to four stops in registers, `row` makes one row from another and `leaves` three at once, `block` makes those of a
 // block of places, `ready` tests what a pass is asked for.
+
+#![tactic(auto)]
+
 mod block;
 mod cost;
 mod leaves;
@@ -23,7 +26,7 @@ pub const BY_PATH: u8 = 2;
 
 // Where costs come from, and for how many stops: the way to read them; the stop whose move to the first stop counts as well, n for none; the version of the path's bytes; and
 // the fork that is held in a state (1 for exchanged), 0 for none, with 2^level stops on each of its sides.
-#[derive(Drop)]
+#[derive(Clone, Copy)]
 pub struct Costs {
     pub n: usize,
     pub by: u8,

@@ -10,7 +10,7 @@ ghost use Rattle.rows.specs.Way.{Weighing, Weighed, Settled, Leads, Light, OnlyB
 use crate::{BY_PATH, Costs, cost};
 
 // The best way to a stop: its total, its stop in the middle place, and how many candidates were weighed for it.
-#[derive(Drop)]
+#[derive(Clone, Copy)]
 pub struct Way {
     pub total: u64,
     pub pivot: u16,
@@ -18,7 +18,7 @@ pub struct Way {
 }
 
 // The ways to four neighbouring stops.
-#[derive(Drop)]
+#[derive(Clone, Copy)]
 pub struct Four {
     pub a: Way,
     pub b: Way,

@@ -3,6 +3,9 @@
 //
 // No public function has a `requires`. A refusal gives its number and touches no lent buffer; after success each output holds its result
 // first and is untouched beyond. There is no work space: the times come straight from the path's bytes.
+
+#![tactic(auto)]
+
 mod forks;
 mod judge;
 mod make;
@@ -22,7 +25,7 @@ pub use judge::{fewer, judge_path};
 use orders::judge_lent;
 
 // The records were written, or the refusal's number.
-#[derive(Drop)]
+#[derive(Clone, Copy)]
 pub enum RecordsMade {
     Made,
     Refused(u16),

@@ -2,6 +2,8 @@
 //
 // No public function has a `requires`: a value too large for the result counts as the largest.
 
+#![tactic(auto)]
+
 ghost use Rattle.std.specs.Prelude.{◌≡◌};
 ghost use Rattle.signed.specs.Result.{at_most, negative, given};
 

@@ -1,6 +1,8 @@
 // Exchanges forks in known orders, and writes what each call answered, one line to a call: the refusal's number and whether every lent
 // place is as it was, or 0 and what every lent place then holds. Every lent place holds 77 before.
 
+#![tactic(auto)]
+
 mod call;
 mod large;
 mod small;

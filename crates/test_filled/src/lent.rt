@@ -7,7 +7,7 @@ use crate::table::fill;
 use test_support::part;
 
 // How much is lent: at most 4,097 numbers of the table, 65 bytes, 65 places of the list, 9 bytes of fork bits, 4,097 numbers of work space.
-#[derive(Drop)]
+#[derive(Clone, Copy)]
 pub struct Lent {
     pub table: usize,
     pub empties: usize,

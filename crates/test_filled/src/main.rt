@@ -2,6 +2,8 @@
 // number and whether every lent place is as it was, or 0, the total, the list's length, and what every lent place then holds; of the
 // work space how many numbers are 0 and how many as they were lent. Every lent place holds 77 before.
 
+#![tactic(auto)]
+
 mod call;
 mod lent;
 mod refused;

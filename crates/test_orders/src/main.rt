@@ -5,6 +5,8 @@
 // The cases stand on standard input, one to a line: a name, a colon, a word whose first letter says what is called, and what the function of that
 // word says. A line without a colon is a remark.
 
+#![tactic(auto)]
+
 mod file;
 mod known;
 mod large;

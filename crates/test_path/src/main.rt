@@ -4,6 +4,8 @@
 // The cases stand on standard input, one to a line: a name, a colon, a word whose first letter says what is called, and what the function of that
 // word says. A line without a colon is a remark.
 
+#![tactic(auto)]
+
 mod coords;
 mod large;
 mod reading;

@@ -1,4 +1,7 @@
 // What the program writes for many byte strings, a line each: the bytes that the program writes for it, in hexadecimal.
+
+#![tactic(auto)]
+
 use plan_output::output_for;
 use test_support::{part, write};
 

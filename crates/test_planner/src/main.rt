@@ -2,6 +2,8 @@
 // how many weighings it was found, the whole lent order, and of `totals` and `pivots` how many numbers are 0 and how many are as they were lent. Every lent number is 77.
 // `places` does the same where places cost extra, `tours` for round trips; `slower` compares two tables.
 
+#![tactic(auto)]
+
 mod call;
 mod large;
 mod lent;

@@ -1,5 +1,8 @@
 // Draws from good, cut, damaged and over-long paths beside the whole reading of the same bytes, also past the end. What it writes is
 // compared with `stdout`.
+
+#![tactic(auto)]
+
 mod draw;
 
 use test_support::part;

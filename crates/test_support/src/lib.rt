@@ -2,6 +2,9 @@
 // apart, `part` makes what is lent, `count` and `sum` say what it holds afterwards, `write` writes it.
 //
 // No public function has a `requires`. No contract can say what is written, so those of `write` promise only that they return.
+
+#![tactic(auto)]
+
 pub mod count;
 pub mod part;
 pub mod sum;

@@ -9,7 +9,7 @@ use crate::travel;
 use stop::Stop;
 
 // Four neighbouring stops.
-#[derive(Drop)]
+#[derive(Clone, Copy)]
 pub struct FourStops {
     pub a: Stop,
     pub b: Stop,

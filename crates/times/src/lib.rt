@@ -3,6 +3,8 @@
 //
 // No public function has a `requires`: bad input is refused by its number before the table is touched.
 
+#![tactic(auto)]
+
 mod column;
 mod fill;
 mod moves;
@@ -23,7 +25,7 @@ use path::{judge_body, stop_from};
 use stop::Stop;
 
 // The time of a move, or the number of its refusal.
-#[derive(Drop)]
+#[derive(Clone, Copy)]
 pub enum MoveTime {
     Takes(u32),
     Refused(u16),
@@ -52,7 +54,7 @@ pub fn move_time(from: Stop, to: Stop) -> MoveTime
 }
 
 // Whether the table was made, or the number of the refusal.
-#[derive(Drop)]
+#[derive(Clone, Copy)]
 pub enum TableMade {
     Made,
     Refused(u16),
@@ -144,7 +146,7 @@ pub fn time_in(bytes: &[u8], version: u16, from: usize, to: usize) -> u32
 }
 
 // The sum of an order's moves, or the number of the refusal.
-#[derive(Drop)]
+#[derive(Clone, Copy)]
 pub enum MovesSummed {
     Sum(u64),
     Refused(u16),

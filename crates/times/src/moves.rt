@@ -12,7 +12,7 @@ use path::stop_from;
 use stop::Stop;
 
 // The moves that were summed: their sum, and the stop that the last of them led to, with its number.
-#[derive(Drop)]
+#[derive(Clone, Copy)]
 struct Passed {
     sum: u64,
     number: u16,

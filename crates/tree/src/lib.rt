@@ -2,6 +2,8 @@
 //
 // No public function has a `requires`.
 
+#![tactic(auto)]
+
 ghost use Rattle.std.specs.Prelude.{◌≡◌};
 ghost use Rattle.tree.specs.Neighbour.{reach_of};
 
