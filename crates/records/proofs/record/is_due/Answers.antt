@@ -4,48 +4,46 @@ use borrow.Author.Tests.{le-leb, lt-leb}
 use mathlib.Core.Path.{sym}
 use native.Mathlib.Omega.{arith}
 use Rattle.records.specs.Record.{is_due, is_kind}
-use Rattle.records.proofs.record.is_due.Statement.{statement}
-use Rattle.records.proofs.record.is_due.Tie as tie
+use Rattle.records.proofs.record.is_due.Goals as goal
 
 -- `records::is_due` meets its contract: each kind is itself, and a number above 7 is none.
-
-returns : tie.Need-returns
+pub returns-in-1 : goal.returns-in-1
 unfolding is_due is_kind
-returns c = rw c.match.keys1
+returns-in-1 c = rw c.in-1.is
 
-returns-2 : tie.Need-returns-2
+pub returns-in-2 : goal.returns-in-2
 unfolding is_due is_kind
-returns-2 c = rw c.match.keys2
+returns-in-2 c = rw c.in-2.is
 
-returns-3 : tie.Need-returns-3
+pub returns-in-3 : goal.returns-in-3
 unfolding is_due is_kind
-returns-3 c = rw c.match.keys3
+returns-in-3 c = rw c.in-3.is
 
-returns-4 : tie.Need-returns-4
+pub returns-in-4 : goal.returns-in-4
 unfolding is_due is_kind
-returns-4 c = rw c.match.keys4
+returns-in-4 c = rw c.in-4.is
 
-returns-5 : tie.Need-returns-5
+pub returns-in-5 : goal.returns-in-5
 unfolding is_due is_kind
-returns-5 c = rw c.match.keys5
+returns-in-5 c = rw c.in-5.is
 
-returns-6 : tie.Need-returns-6
+pub returns-in-6 : goal.returns-in-6
 unfolding is_due is_kind
-returns-6 c = rw c.match.keys6
+returns-in-6 c = rw c.in-6.is
 
-returns-7 : tie.Need-returns-7
+pub returns-in-7 : goal.returns-in-7
 unfolding is_due is_kind
-returns-7 c = rw c.match.keys7
+returns-in-7 c = rw c.in-7.is
 
-returns-8 : tie.Need-returns-8
+pub returns-in-0 : goal.returns-in-0
 unfolding is_due is_kind
-returns-8 c = rw c.match.keys8
+returns-in-0 c = rw c.in-0.in-0-own.keys8
 
-returns-9 : tie.Need-returns-9
+pub returns-in-0-2 : goal.returns-in-0-2
 unfolding is_due is_kind
-returns-9 c =
-    let n = c.before.args.found in
-    let r = c.match.rest in
+returns-in-0-2 c =
+    let n = c.args.found in
+    let r = c.in-0.in-0-own.rest in
     let h0 : 0 < n = lt_of_le-ne (omega arith) (λ e. r.1 (sym e)) in
     let h1 : 1 < n = lt_of_le-ne h0 (λ e. r.0.0.0.0.0.0.0.1 (sym e)) in
     let h2 : 2 < n = lt_of_le-ne h1 (λ e. r.0.0.0.0.0.0.1 (sym e)) in
@@ -55,17 +53,3 @@ returns-9 c =
     let h6 : 6 < n = lt_of_le-ne h5 (λ e. r.0.0.1 (sym e)) in
     let h7 : 7 < n = lt_of_le-ne h6 (λ e. r.0.1 (sym e)) in
     rw (le-leb 1 n h0, lt-leb n 7 h7)
-
-pub is_due_spec : {M : Type 1} → statement M
-is_due_spec =
-    tie.close
-    (tie.spec
-    returns
-    returns-2
-    returns-3
-    returns-4
-    returns-5
-    returns-6
-    returns-7
-    returns-8
-    returns-9)
