@@ -34,7 +34,7 @@ pub data Split (G : Graph) (m n i : ℕ) : ℕ → List ℕ → Type 0 where
       → Split G m n i (c + d) (r ++ q ∷ l)
 
 -- the two parts of a walk
-pub walk_split : {G : Graph} {m i c : ℕ} {l : List ℕ} (n : ℕ) → Walk G (suc (past n m)) i c l → Split G m n i c l
+pub walk_split : {G : Graph} {m : ℕ} (n : ℕ) {i c : ℕ} {l : List ℕ} → Walk G (suc (past n m)) i c l → Split G m n i c l
 unfolding after
 walk_split zero (move v b o) = split b v (begin o)
 walk_split {G} {m} (suc n) (move {i = i} v b o) = go b o (walk_split n v)

@@ -35,7 +35,7 @@ walk-dearer {G} k (move {n = n} {j = j} {c = c} {i = i} {l = l} v b o) =
     subst (λ x. Walk (dearer k G) (suc n) i x (j ∷ l)) e (move (walk-dearer k v) b o)
 
 -- and back: without the extra a walk of the dearer graph is one of the graph
-pub walk-cheaper : {n i d : ℕ} {l : List ℕ} (k : ℕ → ℕ) (G : Graph) → Walk (dearer k G) n i d l
+pub walk-cheaper : (k : ℕ → ℕ) (G : Graph) {n i d : ℕ} {l : List ℕ} → Walk (dearer k G) n i d l
     → (c : ℕ) × (c + extra k n ≡ d) × Walk G n i c l
 unfolding dearer extra
 walk-cheaper k G (begin {i = i} h) = (G.start i, add-zero (G.start i), begin h)
