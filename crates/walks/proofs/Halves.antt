@@ -12,7 +12,6 @@ use Rattle.walks.proofs.Prefer.{at_most-antisym, at_most-join}
 use Rattle.walks.proofs.Walk.{walk-length}
 use Rattle.walks.specs.Best.{at, best}
 use Rattle.walks.specs.Halves.{past, after}
-use Rattle.walks.specs.Rows.{costs}
 use Rattle.walks.specs.Walk.{Graph, Walk, begin, move}
 
 -- it is the sum

@@ -9,7 +9,7 @@ use Rattle.walks.proofs.Best.{scan-back}
 use Rattle.walks.proofs.Places.{plan-order, plan-wanted, plan-found}
 use Rattle.walks.proofs.Rows.{told-scan, told-step, step-told, costs-are}
 use Rattle.walks.specs.Best.{Found, none, at, scan, step, best, plan}
-use Rattle.walks.specs.Places.{stops_to, cost_to, Admits, Preferred, alike}
+use Rattle.walks.specs.Places.{stops_to, cost_to, Admits, Preferred}
 use Rattle.walks.specs.Rows.{told, costs, last}
 use Rattle.walks.specs.Walk.{Graph}
 

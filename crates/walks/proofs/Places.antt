@@ -9,7 +9,7 @@ use native.Mathlib.Omega.{arith}
 use Rattle.walks.proofs.Best.{plan-least, least-has, least-at_most, least-some}
 use Rattle.walks.proofs.Prefer.{Trich, below, equal, above, trich}
 use Rattle.walks.specs.Best.{at, Whole, whole, plan}
-use Rattle.walks.specs.Halves.{past, after}
+use Rattle.walks.specs.Halves.{past}
 use Rattle.walks.specs.Places.{stops_to, cost_to, Admits, Earlier, Preferred, by-cost, by-stops, alike}
 use Rattle.walks.specs.Prefer.{Lex, here, there, cheaper, smaller, AtMost, less, same}
 use Rattle.walks.specs.Walk.{Graph, Walk, begin, move}

@@ -9,7 +9,6 @@ use lib.ListN.{get_or}
 use native.Mathlib.Nat.{zero-sub}
 use native.Mathlib.Omega.{arith}
 use Rattle.walks.specs.Best.{Found, none, at, keep, scan, first, step, best}
-use Rattle.walks.specs.Prefer.{same}
 use Rattle.walks.specs.Rows.{told, costs, line}
 use Rattle.walks.specs.Walk.{Graph}
 

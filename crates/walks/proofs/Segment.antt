@@ -11,7 +11,7 @@ use Rattle.walks.proofs.Rows.{line-is}
 use Rattle.walks.specs.Best.{at, best}
 use Rattle.walks.specs.Halves.{past, after, segment}
 use Rattle.walks.specs.Places.{stops_to}
-use Rattle.walks.specs.Rows.{told, costs, line}
+use Rattle.walks.specs.Rows.{told, line}
 use Rattle.walks.specs.Walk.{Graph}
 
 -- stops below N; `ok p j i` and `w p j i`: stop i may follow j in place p, and the cost of that
