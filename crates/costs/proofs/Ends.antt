@@ -5,7 +5,7 @@ use mathlib.Core.List.{List, ◌∷◌}
 use Prim.Native.Nat.{ℕ, suc, ◌+◌, ◌-◌, ◌^◌, ◌<◌}
 use native.Mathlib.Nat.{add-zero}
 use native.Mathlib.Omega.{arith}
-use lib.ListN.{get_or, length}
+use lib.ListN.{get_or}
 use Rattle.walks.specs.Walk.{Graph}
 use Rattle.walks.specs.Best.{Found, none, at, scan, step, best}
 use Rattle.walks.specs.Rows.{told, line, turn, Codes}
