@@ -1,8 +1,6 @@
 -- Every refusal has a number of the table in 'Turned down', so none can be taken for a success, whose number is 0.
-use mathlib.Core.Path.{◌≡◌}
 use mathlib.Core.Bool.{Bool, true, false}
 use Prim.Native.Nat.{ℕ, ◌≤◌}
-use native.Mathlib.Omega.{arith}
 use Rattle.base.specs.Refusal.{last_number}
 use Rattle.base.specs.Outcome.{Outcome, gives, refuses, need, and_then, giving}
 
