@@ -10,7 +10,6 @@ mod put;
 mod text;
 
 ghost use Rattle.std.specs.Prelude.{◌≤◌, length};
-ghost use Rattle.base.specs.Buffer.{at_entry};
 ghost use Rattle.all_orders_output.specs.Output.{output_for, longest_text, printed, print_max_k, IsOutput};
 ghost use Rattle.all_orders_output.specs.Local.{Puts, orders_after_head};
 
@@ -39,7 +38,7 @@ pub struct Output {
 // Prints all orders of a path whose head gave `version` and `k`, or the refusal of its stops.
 fn put_body(out: &mut [u8], path: &[u8], version: u16, k: u16) -> usize
     requires { (k ≤ print_max_k) × (longest_text ≤ length out.old) }
-    ensures { Puts out 0 (printed (orders_after_head (at_entry path) version k)) result }
+    ensures { Puts out 0 (printed (orders_after_head path.now version k)) result }
 {
     let n = stop_count(k);
     let size = n * n;
@@ -50,7 +49,7 @@ fn put_body(out: &mut [u8], path: &[u8], version: u16, k: u16) -> usize
 // Prints all orders of path bytes, or the number of their refusal.
 fn put_output(out: &mut [u8], path: &[u8]) -> usize
     requires { longest_text ≤ length out.old }
-    ensures { Puts out 0 (output_for (at_entry path)) result }
+    ensures { Puts out 0 (output_for path.now) result }
 {
     let head = judge_head(path, HIGHEST);
     let refused = head.refused;
@@ -67,7 +66,7 @@ fn put_output(out: &mut [u8], path: &[u8]) -> usize
 
 // The output for path bytes, of any length.
 pub fn output_for(path: &[u8]) -> Output
-    ensures { IsOutput (at_entry path) result.bytes result.count }
+    ensures { IsOutput path.now result.bytes result.count }
 {
     let mut bytes = [0u8; LONGEST_TEXT];
     let count = put_output(&mut bytes, path);

@@ -1,6 +1,5 @@
 // The lines of all orders of a table of times, one after the other. These functions have a `requires`: the module is private.
 ghost use Rattle.std.specs.Prelude.{◌≡◌, true, ◌+◌, ◌*◌, ◌^◌, ◌≤◌, ◌<◌, length};
-ghost use Rattle.base.specs.Buffer.{at_entry};
 ghost use Rattle.tree.specs.Total.{entry};
 ghost use Rattle.orders.specs.Allowed.{set_count};
 ghost use Rattle.orders.specs.Bits.{only_forks};
@@ -23,7 +22,7 @@ fn forks_on(j: usize) -> u8
 // Puts the line of the order that a set of forks gives.
 fn put_order(out: &mut [u8], at: usize, k: u16, forks: u8, table: &[u32]) -> usize
     requires { Small k (length table.now) × (only_forks k forks ≡ true) × (at + longest_line ≤ length out.old) }
-    ensures { Puts out at (order_line k (entry (2 ^ k) (at_entry table)) forks) result }
+    ensures { Puts out at (order_line k (entry (2 ^ k) table.now) forks) result }
 {
     let n = stop_count(k);
     let bits = [forks];
@@ -36,7 +35,7 @@ fn put_order(out: &mut [u8], at: usize, k: u16, forks: u8, table: &[u32]) -> usi
 // Puts the lines of all sets of forks, by increasing number: 2^(n - 1) lines.
 pub fn put_lines(out: &mut [u8], k: u16, table: &[u32]) -> usize
     requires { Small k (length table.now) × (longest_text ≤ length out.old) }
-    ensures { Puts out 0 (lines_of k (entry (2 ^ k) (at_entry table)) (set_count k)) result }
+    ensures { Puts out 0 (lines_of k (entry (2 ^ k) table.now) (set_count k)) result }
 {
     let count = 1usize << (stop_count(k) - 1);
     let mut at = 0;

@@ -1,7 +1,6 @@
 // Numbers and bytes put into a buffer, one after the other: each function answers the place after what it put. These functions have a
 // `requires`: the module is private.
 ghost use Rattle.std.specs.Prelude.{[], ◌∷◌, ◌+◌, ◌≤◌, ◌<◌, length};
-ghost use Rattle.base.specs.Buffer.{at_entry};
 ghost use Rattle.all_orders_output.specs.Decimal.{decimal};
 ghost use Rattle.all_orders_output.specs.Text.{space, spaced, line_of};
 ghost use Rattle.all_orders_output.specs.Local.{Puts};
@@ -39,7 +38,7 @@ fn put_stop(out: &mut [u8], at: usize, stop: u16) -> usize
 // Puts the stops of an order, each after one space.
 fn put_stops(out: &mut [u8], at: usize, order: &[u16]) -> usize
     requires { at + length (spaced order.now) ≤ length out.old }
-    ensures { Puts out at (spaced (at_entry order)) result }
+    ensures { Puts out at (spaced order.now) result }
 {
     let mut end = at;
     let mut p = 0;
@@ -53,7 +52,7 @@ fn put_stops(out: &mut [u8], at: usize, order: &[u16]) -> usize
 // Puts a line: the total, the stops by place, byte 10.
 pub fn put_line(out: &mut [u8], at: usize, total: u64, order: &[u16]) -> usize
     requires { at + length (line_of total order.now) ≤ length out.old }
-    ensures { Puts out at (line_of total (at_entry order)) result }
+    ensures { Puts out at (line_of total order.now) result }
 {
     let first = put_decimal(out, at, total);
     let last = put_stops(out, first, order);

@@ -1,7 +1,7 @@
 -- 'The result is the count of bytes written, 0 for a good check, or the refusal number made negative.'
 use Rattle.std.specs.Prelude.{◌≡◌, List, ℕ, ℤ, pos, neg_ℤ, length}
 use Rattle.base.specs.Outcome.{Outcome, gives, refuses, giving, after}
-use Rattle.base.specs.Buffer.{Unsigned, at_entry, at_exit}
+use Rattle.base.specs.Buffer.{Unsigned, SharedUnsigned, at_entry, at_exit, contents}
 use Rattle.jobs.specs.Plan.{plan_file, Carries}
 use Rattle.jobs.specs.Check.{check_file}
 use Rattle.jobs.specs.Rewrite.{rewrite_file}
@@ -27,8 +27,8 @@ pub record PathForC (bytes : List ℕ) (highest version : ℕ) (before afterward
   pub left : afterwards ≡ after (rewrite_file bytes highest version (length before)) (λ path. path) before
 
 -- the same of the calls' parameters
-abbrev pub CellPlans : Unsigned → ℕ → Unsigned → ℤ → Type 0
-CellPlans path highest out r = FileForC (at_entry path) highest (at_entry out) (at_exit out) r
+abbrev pub CellPlans : SharedUnsigned → ℕ → Unsigned → ℤ → Type 0
+CellPlans path highest out r = FileForC (contents path) highest (at_entry out) (at_exit out) r
 
-abbrev pub CellRewrites : Unsigned → ℕ → ℕ → Unsigned → ℤ → Type 0
-CellRewrites path highest version out r = PathForC (at_entry path) highest version (at_entry out) (at_exit out) r
+abbrev pub CellRewrites : SharedUnsigned → ℕ → ℕ → Unsigned → ℤ → Type 0
+CellRewrites path highest version out r = PathForC (contents path) highest version (at_entry out) (at_exit out) r

@@ -7,7 +7,6 @@
 #![tactic(auto)]
 
 ghost use Rattle.std.specs.Prelude.{◌≡◌};
-ghost use Rattle.base.specs.Buffer.{at_entry};
 ghost use Rattle.cell.specs.Cell.{CellPlans, cell_check, CellRewrites};
 
 use jobs::FileChecked;
@@ -30,7 +29,7 @@ pub extern "C" fn cell_plan(path: &[u8], highest: u16, out: &mut [u8]) -> i64
 // Checks an order file against a path. The path is read first.
 #[unsafe(no_mangle)]
 pub extern "C" fn cell_check(path: &[u8], highest: u16, file: &[u8]) -> i64
-    ensures { result ≡ cell_check (at_entry path) highest (at_entry file) }
+    ensures { result ≡ cell_check path.now highest file.now }
 {
     let answer = jobs::check_file(path, highest, file);
     match answer {

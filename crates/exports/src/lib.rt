@@ -8,7 +8,6 @@
 mod packed;
 
 ghost use Rattle.std.specs.Prelude.{◌≡◌};
-ghost use Rattle.base.specs.Buffer.{at_entry};
 ghost use Rattle.path.specs.Draw.{draw_at};
 ghost use Rattle.path.specs.Reading.{ReadsPath, said as path_read};
 ghost use Rattle.path.specs.Written.{WritesPath, said as path_written};
@@ -411,7 +410,7 @@ pub extern "C" fn ffi_clear(marks: &mut [u8]) -> i64
 // `orders::order_total`: the total.
 #[unsafe(no_mangle)]
 pub extern "C" fn ffi_order_total(k: u16, order: &[u16], table: &[u32]) -> i64
-    ensures { result ≡ signed itself (order_total k (at_entry order) (at_entry table)) }
+    ensures { result ≡ signed itself (order_total k order.now table.now) }
 {
     let answer = orders::order_total(k, order, table);
     match answer {
@@ -453,7 +452,7 @@ pub extern "C" fn ffi_read_order_file(
 // `reader::draw_number`: the verdict of draw d, 0 for a stop and 1 for the end, or the refusal.
 #[unsafe(no_mangle)]
 pub extern "C" fn ffi_draw(bytes: &[u8], highest: u16, d: usize) -> i64
-    ensures { result ≡ signed itself (verdict (draw_at (at_entry bytes) highest d)) }
+    ensures { result ≡ signed itself (verdict (draw_at bytes.now highest d)) }
 {
     let drawn = reader::draw_number(bytes, highest, d);
     if drawn.verdict == reader::A_REFUSAL {
@@ -466,7 +465,7 @@ pub extern "C" fn ffi_draw(bytes: &[u8], highest: u16, d: usize) -> i64
 // blend, 5 the dwell.
 #[unsafe(no_mangle)]
 pub extern "C" fn ffi_draw_field(bytes: &[u8], highest: u16, d: usize, field: u16) -> i64
-    ensures { result ≡ field_of field (draw_answer (draw_at (at_entry bytes) highest d)).stop }
+    ensures { result ≡ field_of field (draw_answer (draw_at bytes.now highest d)).stop }
 {
     let drawn = reader::draw_number(bytes, highest, d);
     stop_field(drawn.stop, field)

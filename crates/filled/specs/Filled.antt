@@ -2,7 +2,7 @@
 use Rattle.std.specs.Prelude.{◌≡◌, Bool, true, ◌&&◌, List, [], ◌∷◌, ℕ, ◌*◌, ◌^◌, leb, eqb, length, get_or, take, replicate}
 use Rattle.base.specs.Refusal.{wrong_k, out_of_range, wrong_size}
 use Rattle.base.specs.Outcome.{Outcome, gives, refuses, need, giving, after}
-use Rattle.base.specs.Buffer.{Unsigned, at_entry, at_exit}
+use Rattle.base.specs.Buffer.{Unsigned, SharedUnsigned, at_entry, at_exit, contents}
 use Rattle.tree.specs.Total.{entry, total}
 use Rattle.orders.specs.Bits.{byte_count, bit_string, set_of_bits}
 use Rattle.filled.specs.declared.ListPlanned.{ListPlanned}
@@ -80,8 +80,8 @@ pub record ListIsPlanned (k : ℕ) (table empties : List ℕ) (o : Outcome ListP
   pub claim : (c count : ℕ) → r ≡ Done c count → Accepted k table empties list' bits' c count
 
 -- the same of the call's parameters
-abbrev pub PlansList : ℕ → Unsigned → Unsigned → Unsigned → Unsigned → Unsigned → ListPlanned → Type 0
+abbrev pub PlansList : ℕ → SharedUnsigned → SharedUnsigned → Unsigned → Unsigned → Unsigned → ListPlanned → Type 0
 PlansList k table empties list bits work r =
-    ListIsPlanned k (at_entry table) (at_entry empties)
-    (plan_list k (at_entry table) (at_entry empties) (length (at_entry list)) (length (at_entry bits)) (length (at_entry work)))
+    ListIsPlanned k (contents table) (contents empties)
+    (plan_list k (contents table) (contents empties) (length (at_entry list)) (length (at_entry bits)) (length (at_entry work)))
     (at_entry list) (at_entry bits) (at_entry work) (at_exit list) (at_exit bits) (at_exit work) r

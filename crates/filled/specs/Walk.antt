@@ -1,7 +1,7 @@
 -- The walk back through the table, and what a run of the method leaves.
 use Rattle.std.specs.Prelude.{◌≡◌, List, ◌∷◌, ◌++◌, ℕ, ◌+◌, ◌≤◌, ◌<◌, length, get_or, replicate}
 use Rattle.std.specs.Int.Count.{ones}
-use Rattle.base.specs.Buffer.{Unsigned, at_entry, at_exit}
+use Rattle.base.specs.Buffer.{Unsigned, SharedUnsigned, at_entry, at_exit, contents}
 use Rattle.base.specs.Outcome.{over}
 use Rattle.tree.specs.Neighbour.{in_place}
 use Rattle.tree.specs.Total.{total}
@@ -49,6 +49,6 @@ pub record ListIsWritten (tray : Tray) (table list bits work list' bits' work' :
   pub marked : bits' ≡ over (bit_string tray.k (list_forks tray.k (filled_of tray) (wanted_of tray table))) bits
   pub cleared : work' ≡ replicate (length work) 0
 
-abbrev pub WritesList : Tray → Unsigned → Unsigned → Unsigned → Unsigned → ListPlanned → Type 0
+abbrev pub WritesList : Tray → SharedUnsigned → Unsigned → Unsigned → Unsigned → ListPlanned → Type 0
 WritesList tray table list bits work r =
-    ListIsWritten tray (at_entry table) (at_entry list) (at_entry bits) (at_entry work) (at_exit list) (at_exit bits) (at_exit work) r
+    ListIsWritten tray (contents table) (at_entry list) (at_entry bits) (at_entry work) (at_exit list) (at_exit bits) (at_exit work) r

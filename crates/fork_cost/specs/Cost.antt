@@ -3,7 +3,7 @@
 use Rattle.std.specs.Prelude.{◌≡◌, cond, List, ℕ, zero, suc, ◌+◌, ◌-◌, ◌^◌, leb, eqb, length}
 use Rattle.base.specs.Refusal.{wrong_size, no_such_fork}
 use Rattle.base.specs.Outcome.{Outcome, gives, refuses, need, and_then, giving, after}
-use Rattle.base.specs.Buffer.{Unsigned, at_entry, at_exit}
+use Rattle.base.specs.Buffer.{Unsigned, SharedUnsigned, at_entry, at_exit, contents}
 use Rattle.path.specs.Path.{Path, read_path}
 use Rattle.times.specs.Table.{entry_of}
 use Rattle.tree.specs.Fork.{bit}
@@ -95,7 +95,7 @@ pub record CostIsGiven (o : Outcome SizedCost) (totals pivots orders totals' piv
   pub cleared_orders : orders' ≡ after o (λ given. cleared given.k) orders
 
 -- the same of the call's parameters
-abbrev pub GivesCost : Unsigned → ℕ → ℕ → Unsigned → Unsigned → Unsigned → ForkCost → Type 0
+abbrev pub GivesCost : SharedUnsigned → ℕ → ℕ → Unsigned → Unsigned → Unsigned → ForkCost → Type 0
 GivesCost bytes highest fork totals pivots orders r =
-    CostIsGiven (fork_cost (at_entry bytes) highest fork (length (at_entry totals)) (length (at_entry pivots)) (length (at_entry orders)))
+    CostIsGiven (fork_cost (contents bytes) highest fork (length (at_entry totals)) (length (at_entry pivots)) (length (at_entry orders)))
     (at_entry totals) (at_entry pivots) (at_entry orders) (at_exit totals) (at_exit pivots) (at_exit orders) r

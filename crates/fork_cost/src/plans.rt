@@ -2,7 +2,6 @@
 
 ghost use Rattle.std.specs.Prelude.{◌≡◌, true, false, cond, ◌++◌, ◌+◌, ◌-◌, ◌^◌, ◌≤◌, ◌<◌, eqb, length, take, drop};
 ghost use Rattle.base.specs.Outcome.{value, gives};
-ghost use Rattle.base.specs.Buffer.{at_entry, at_exit};
 ghost use Rattle.planner.specs.Places.{order_said};
 ghost use Rattle.orders.specs.Allowed.{is_allowed};
 ghost use Rattle.orders.specs.Lent.{order_in};
@@ -44,7 +43,7 @@ fn write_order(
     pivots: &mut [u16],
 ) -> u64
     requires { Judged bytes.now version k (length totals.old) (length pivots.old) × (fork < 2 ^ k) × (length order.old ≡ 2 ^ k) }
-    ensures { OrderLeft k (plan_of (at_entry bytes) version k fork exchanged).order (plan_of (at_entry bytes) version k fork exchanged).total (at_exit order) (at_entry totals) (at_entry pivots) (at_exit totals) (at_exit pivots) result }
+    ensures { OrderLeft k (plan_of bytes.now version k fork exchanged).order (plan_of bytes.now version k fork exchanged).total order.new totals.old pivots.old totals.new pivots.new result }
 {
     total_of(plan_held(bytes, version, k, fork, exchanged, order, totals, pivots))
 }
@@ -52,7 +51,7 @@ fn write_order(
 // The state of a fork in an allowed order: its bit in the order's fork string.
 fn state_in(k: u16, fork: u16, order: &[u16]) -> u16
     requires { (k ≤ 10) × (fork < 2 ^ k) × (2 ^ k ≤ length order.now) × (is_allowed k (order_in k order.now) ≡ true) }
-    ensures { result ≡ state_in k (order_in k (at_entry order)) fork }
+    ensures { result ≡ state_in k (order_in k order.now) fork }
 {
     let mut bits = [0u8; 128];
     fork_bits(k, order, &mut bits);
@@ -70,7 +69,7 @@ fn write_first(
     orders: &mut [u16],
 ) -> u64
     requires { Judged bytes.now version k (length totals.old) (length pivots.old) × (length orders.old ≡ 2 ^ k + 2 ^ k) }
-    ensures { OrderLeft k ((plan_of (at_entry bytes) version k 0 false).order ++ drop (2 ^ k) (at_entry orders)) (plan_of (at_entry bytes) version k 0 false).total (at_exit orders) (at_entry totals) (at_entry pivots) (at_exit totals) (at_exit pivots) result }
+    ensures { OrderLeft k ((plan_of bytes.now version k 0 false).order ++ drop (2 ^ k) orders.old) (plan_of bytes.now version k 0 false).total orders.new totals.old pivots.old totals.new pivots.new result }
 {
     let n = stop_count(k);
     write_order(
@@ -97,7 +96,7 @@ fn write_second(
     orders: &mut [u16],
 ) -> u64
     requires { Judged bytes.now version k (length totals.old) (length pivots.old) × (fork < 2 ^ k) × (length orders.old ≡ 2 ^ k + 2 ^ k) }
-    ensures { OrderLeft k (take (2 ^ k) (at_entry orders) ++ (plan_of (at_entry bytes) version k fork exchanged).order) (plan_of (at_entry bytes) version k fork exchanged).total (at_exit orders) (at_entry totals) (at_entry pivots) (at_exit totals) (at_exit pivots) result }
+    ensures { OrderLeft k (take (2 ^ k) orders.old ++ (plan_of bytes.now version k fork exchanged).order) (plan_of bytes.now version k fork exchanged).total orders.new totals.old pivots.old totals.new pivots.new result }
 {
     let n = stop_count(k);
     write_order(
@@ -123,7 +122,7 @@ fn plan_both(
     orders: &mut [u16],
 ) -> Both
     requires { Judged bytes.now version k (length totals.old) (length pivots.old) × (0 < fork) × (fork < 2 ^ k) × (length orders.old ≡ 2 ^ k + 2 ^ k) }
-    ensures { BothLeft k (times_of (at_entry bytes) version k) fork (at_exit orders) (at_entry totals) (at_entry pivots) (at_exit totals) (at_exit pivots) result }
+    ensures { BothLeft k (times_of bytes.now version k) fork orders.new totals.old pivots.old totals.new pivots.new result }
 {
     let total = write_first(bytes, version, k, totals, pivots, orders);
     let state = state_in(k, fork, orders);
@@ -146,7 +145,7 @@ fn later(place: usize, p: usize, stop: u16, other: u16) -> usize
 // The last place at which the first n numbers and the n numbers behind them part.
 fn last_apart(orders: &[u16], n: usize) -> usize
     requires { (n ≤ 1024) × (length orders.now ≡ n + n) }
-    ensures { (result ≡ last_apart (take n (at_entry orders)) (drop n (at_entry orders)) n) × (result < 65536) }
+    ensures { (result ≡ last_apart (take n orders.now) (drop n orders.now) n) × (result < 65536) }
 {
     let mut place = 0;
     for p in 0..n {
@@ -186,7 +185,7 @@ pub fn compare(
     orders: &mut [u16],
 ) -> ForkCost
     requires { Judged bytes.now version k (length totals.old) (length pivots.old) × (0 < fork) × (fork < 2 ^ k) × (length orders.old ≡ 2 ^ k + 2 ^ k) }
-    ensures { CostLeft k (times_of (at_entry bytes) version k) fork (at_exit orders) (at_entry totals) (at_entry pivots) (at_exit totals) (at_exit pivots) result }
+    ensures { CostLeft k (times_of bytes.now version k) fork orders.new totals.old pivots.old totals.new pivots.new result }
 {
     let both = plan_both(bytes, version, k, fork, totals, pivots, orders);
     let place = last_apart(orders, stop_count(k));

@@ -2,7 +2,7 @@
 use Rattle.std.specs.Prelude.{◌≡◌, List, ℕ, ◌^◌, leb, length, take}
 use Rattle.base.specs.Refusal.{wrong_size}
 use Rattle.base.specs.Outcome.{Outcome, gives, need, giving, after}
-use Rattle.base.specs.Buffer.{Unsigned, at_entry, at_exit}
+use Rattle.base.specs.Buffer.{Unsigned, SharedUnsigned, at_entry, at_exit, contents}
 use Rattle.path.specs.Path.{Path, read_path}
 use Rattle.times.specs.Table.{entry_of}
 use Rattle.orders.specs.Allowed.{forks_of}
@@ -46,5 +46,5 @@ pub record FileIsPlanned (bytes : List ℕ) (highest : ℕ) (before afterwards :
   pub claim : (count : ℕ) → r ≡ Wrote count → Carries bytes highest count afterwards
 
 -- the same of the call's parameters
-abbrev pub PlansFile : Unsigned → ℕ → Unsigned → FileWritten → Type 0
-PlansFile path highest out r = FileIsPlanned (at_entry path) highest (at_entry out) (at_exit out) r
+abbrev pub PlansFile : SharedUnsigned → ℕ → Unsigned → FileWritten → Type 0
+PlansFile path highest out r = FileIsPlanned (contents path) highest (at_entry out) (at_exit out) r

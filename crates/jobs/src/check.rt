@@ -2,7 +2,6 @@
 ghost use Rattle.std.specs.Prelude.{◌≡◌, ◌≤◌, eqb};
 ghost use Rattle.base.specs.Refusal.{wrong_total};
 ghost use Rattle.base.specs.Outcome.{gives, need, and_then};
-ghost use Rattle.base.specs.Buffer.{at_entry};
 ghost use Rattle.order_file.specs.Read.{said as said_read};
 ghost use Rattle.jobs.specs.Check.{said};
 ghost use Rattle.jobs.specs.Limit.{job_max_k};
@@ -31,7 +30,7 @@ fn compare_total(read: FileRead, sum: u64) -> FileChecked
 // Checks a file by the stops after a head. They are judged where the file's moves are summed, once for both; their refusal comes before the file's.
 pub fn check_against(path: &[u8], version: u16, k: u16, file: &[u8]) -> FileChecked
     requires { k ≤ job_max_k }
-    ensures { said result ≡ check_against (at_entry path) version k (at_entry file) }
+    ensures { said result ≡ check_against path.now version k file.now }
 {
     let mut order = [0u16; 64];
     let read = read_unsummed(k, file, &mut order);

@@ -9,7 +9,6 @@ mod check;
 mod plan;
 
 ghost use Rattle.std.specs.Prelude.{◌≡◌};
-ghost use Rattle.base.specs.Buffer.{at_entry};
 ghost use Rattle.jobs.specs.Plan.{PlansFile};
 ghost use Rattle.jobs.specs.Check.{check_file, said};
 ghost use Rattle.jobs.specs.Rewrite.{RewritesFile};
@@ -50,7 +49,7 @@ pub fn plan_file(path: &[u8], highest: u16, out: &mut [u8]) -> FileWritten
 
 // Checks an order file against a path. The path is read first.
 pub fn check_file(path: &[u8], highest: u16, file: &[u8]) -> FileChecked
-    ensures { said result ≡ check_file (at_entry path) highest (at_entry file) }
+    ensures { said result ≡ check_file path.now highest file.now }
 {
     let head = judge_head(path, highest);
     let refused = head.refused;

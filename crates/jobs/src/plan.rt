@@ -1,7 +1,6 @@
 // A path whose head was judged, planned in work space of the job's own. These functions have a `requires`: the module is private.
 ghost use Rattle.std.specs.Prelude.{◌≡◌, ◌^◌, ◌≤◌, length};
 ghost use Rattle.base.specs.Outcome.{gives};
-ghost use Rattle.base.specs.Buffer.{at_entry, at_exit};
 ghost use Rattle.tree.specs.Total.{entry};
 ghost use Rattle.tree.specs.Open.{wanted};
 ghost use Rattle.order_file.specs.File.{file_for, file_size};
@@ -15,7 +14,7 @@ use times::{TableMade, table_from};
 // Writes the file of the wanted order by a table.
 fn file_by(k: u16, table: &[u32], out: &mut [u8]) -> FileWritten
     requires { Ready k (length table.now) (length out.old) }
-    ensures { FileIsLeft (gives (file_for k (entry (2 ^ k) (at_entry table)) (wanted k (entry (2 ^ k) (at_entry table))))) (at_entry out) (at_exit out) result }
+    ensures { FileIsLeft (gives (file_for k (entry (2 ^ k) table.now) (wanted k (entry (2 ^ k) table.now)))) out.old out.new result }
 {
     let mut order = [0u16; 64];
     let mut totals = [0u64; 128];
@@ -27,7 +26,7 @@ fn file_by(k: u16, table: &[u32], out: &mut [u8]) -> FileWritten
 // Judges the stops after the head, makes their table in a lent one, and writes the file.
 fn file_in(path: &[u8], version: u16, k: u16, table: &mut [u32], out: &mut [u8]) -> FileWritten
     requires { Ready k (length table.old) (length out.old) }
-    ensures { FileIsLeft (file_after_head (at_entry path) version k) (at_entry out) (at_exit out) result }
+    ensures { FileIsLeft (file_after_head path.now version k) out.old out.new result }
 {
     let made = table_from(path, version, k, table);
     match made {
@@ -39,7 +38,7 @@ fn file_in(path: &[u8], version: u16, k: u16, table: &mut [u32], out: &mut [u8])
 // Plans a path whose head gave `version` and `k`.
 pub fn plan_small(path: &[u8], version: u16, k: u16, out: &mut [u8]) -> FileWritten
     requires { (k ≤ job_max_k) × (file_size (2 ^ k) ≤ length out.old) }
-    ensures { FileIsLeft (file_after_head (at_entry path) version k) (at_entry out) (at_exit out) result }
+    ensures { FileIsLeft (file_after_head path.now version k) out.old out.new result }
 {
     let n = stop_count(k);
     let size = n * n;

@@ -2,7 +2,7 @@
 use Rattle.std.specs.Prelude.{◌≡◌, List, ℕ, ◌-◌, leb, length, set, replicate}
 use Rattle.base.specs.Refusal.{wrong_size}
 use Rattle.base.specs.Outcome.{Outcome, gives, need, and_then, done, left, after}
-use Rattle.base.specs.Buffer.{Unsigned, at_entry, at_exit}
+use Rattle.base.specs.Buffer.{Unsigned, SharedUnsigned, at_entry, at_exit, contents}
 use Rattle.path.specs.Path.{read_path}
 use Rattle.times.specs.Table.{entry_of}
 use Rattle.screen.specs.declared.RecordsMade.{RecordsMade}
@@ -62,15 +62,15 @@ shown_in order sums = record { order = order; sums = sums }
 abbrev pub kept_in : (marks stops sums : List ℕ) → Kept
 kept_in marks stops sums = record { marks = marks; stops = stops; sums = sums }
 
-abbrev pub KeepsOrder : Unsigned → ℕ → ℕ → Unsigned → Unsigned → Unsigned → Unsigned → Unsigned → RecordsMade → Type 0
+abbrev pub KeepsOrder : SharedUnsigned → ℕ → ℕ → SharedUnsigned → SharedUnsigned → Unsigned → Unsigned → Unsigned → RecordsMade → Type 0
 KeepsOrder bytes highest name order sums marks stops kept r =
-    OrderIsKept (at_entry bytes) highest name (shown_in (at_entry order) (at_entry sums))
+    OrderIsKept (contents bytes) highest name (shown_in (contents order) (contents sums))
     (kept_in (at_entry marks) (at_entry stops) (at_entry kept)) (kept_in (at_exit marks) (at_exit stops) (at_exit kept)) r
 
-abbrev pub ComesBack : Unsigned → ℕ → ℕ → Unsigned → Unsigned → Unsigned → Unsigned → Unsigned → RecordsMade → Type 0
+abbrev pub ComesBack : SharedUnsigned → ℕ → ℕ → Unsigned → Unsigned → SharedUnsigned → SharedUnsigned → SharedUnsigned → RecordsMade → Type 0
 ComesBack bytes highest name order sums marks stops kept r =
-    OrderComesBack (at_entry bytes) highest name (shown_in (at_entry order) (at_entry sums)) (shown_in (at_exit order) (at_exit sums))
-    (kept_in (at_entry marks) (at_entry stops) (at_entry kept)) r
+    OrderComesBack (contents bytes) highest name (shown_in (at_entry order) (at_entry sums)) (shown_in (at_exit order) (at_exit sums))
+    (kept_in (contents marks) (contents stops) (contents kept)) r
 
 abbrev pub ClearsMarks : Unsigned → RecordsMade → Type 0
 ClearsMarks marks r = MarksAreCleared (at_entry marks) (at_exit marks) r

@@ -1,7 +1,6 @@
 // What comes before anything is written: the lengths, the screen's records, the name, and what was kept under it.
 ghost use Rattle.std.specs.Prelude.{◌≡◌, ◌*◌, ◌≤◌, ◌^◌, length};
 ghost use Rattle.base.specs.Outcome.{number, and_then};
-ghost use Rattle.base.specs.Buffer.{at_entry};
 ghost use Rattle.base.specs.Size.{max_k};
 ghost use Rattle.times.specs.InPath.{time_in};
 ghost use Rattle.screen.specs.Records.{lent_records};
@@ -27,7 +26,7 @@ pub fn places(marks: usize, stops: usize, kept: usize, order: usize, sums: usize
 
 // 0, or the refusal of the screen's records and then of the name (15).
 pub fn judge_keep(bytes: &[u8], version: u16, k: u16, name: u16, order: &[u16], sums: &[u64]) -> u16
-    ensures { result ≡ number (and_then (lent_records (time_in version (at_entry bytes)) k (at_entry order) (at_entry sums)) (named name)) }
+    ensures { result ≡ number (and_then (lent_records (time_in version bytes.now) k order.now sums.now) (named name)) }
 {
     let faulty = judge_records(bytes, version, k, order, sums);
     if faulty != 0 {
@@ -55,8 +54,8 @@ pub fn judge_back(
     kept: &[u64],
 ) -> u16
     requires { (k ≤ max_k) × (names ≤ length marks.now) × (names * 2 ^ k ≤ length stops.now) × (names * 2 ^ k ≤ length kept.now) }
-    ensures { result ≡ number (and_then (and_then (lent_records (time_in version (at_entry bytes)) k (at_entry order) (at_entry sums)) (named name))
-        (λ _. lent_under (time_in version (at_entry bytes)) k name (at_entry marks) (at_entry stops) (at_entry kept))) }
+    ensures { result ≡ number (and_then (and_then (lent_records (time_in version bytes.now) k order.now sums.now) (named name))
+        (λ _. lent_under (time_in version bytes.now) k name marks.now stops.now kept.now)) }
 {
     let faulty = judge_keep(bytes, version, k, name, order, sums);
     if faulty != 0 {

@@ -1,7 +1,6 @@
 // Orders and sums copied to the place of a name and back.
 ghost use Rattle.std.specs.Prelude.{◌≡◌, ◌++◌, ◌+◌, ◌*◌, ◌-◌, ◌≤◌, ◌^◌, length, drop, set, replicate};
 ghost use Rattle.std.proofs.Math.Seq.{paste};
-ghost use Rattle.base.specs.Buffer.{at_entry, at_exit};
 ghost use Rattle.base.specs.Size.{max_k};
 ghost use Rattle.named.specs.Names.{names, used, start_of};
 
@@ -11,7 +10,7 @@ use base::stop_count;
 // Copies the n stops of one buffer from place `start` on into another, from place `at` on.
 fn copy_stops(from: &[u16], start: usize, to: &mut [u16], at: usize, n: usize)
     requires { (start + n ≤ length from.now) × (at + n ≤ length to.old) }
-    ensures { at_exit to ≡ paste (at_entry to) at (drop start (at_entry from)) n }
+    ensures { to.new ≡ paste to.old at (drop start from.now) n }
 {
     let mut i = 0;
     while i < n {
@@ -23,7 +22,7 @@ fn copy_stops(from: &[u16], start: usize, to: &mut [u16], at: usize, n: usize)
 // The same for sums.
 fn copy_sums(from: &[u64], start: usize, to: &mut [u64], at: usize, n: usize)
     requires { (start + n ≤ length from.now) × (at + n ≤ length to.old) }
-    ensures { at_exit to ≡ paste (at_entry to) at (drop start (at_entry from)) n }
+    ensures { to.new ≡ paste to.old at (drop start from.now) n }
 {
     let mut i = 0;
     while i < n {
@@ -44,9 +43,9 @@ pub fn keep_under(
 )
     requires { (k ≤ max_k) × (1 ≤ name) × (name ≤ names) × (2 ^ k ≤ length order.now) × (2 ^ k ≤ length sums.now)
         × (names ≤ length marks.old) × (names * 2 ^ k ≤ length stops.old) × (names * 2 ^ k ≤ length kept.old) }
-    ensures { (at_exit marks ≡ set (at_entry marks) (name - 1) used)
-        × (at_exit stops ≡ paste (at_entry stops) (start_of k name) (at_entry order) (2 ^ k))
-        × (at_exit kept ≡ paste (at_entry kept) (start_of k name) (at_entry sums) (2 ^ k)) }
+    ensures { (marks.new ≡ set marks.old (name - 1) used)
+        × (stops.new ≡ paste stops.old (start_of k name) order.now (2 ^ k))
+        × (kept.new ≡ paste kept.old (start_of k name) sums.now (2 ^ k)) }
 {
     let n = stop_count(k);
     let at = (name - 1) * n;
@@ -66,8 +65,8 @@ pub fn bring_back(
 )
     requires { (k ≤ max_k) × (1 ≤ name) × (name ≤ names) × (2 ^ k ≤ length order.old) × (2 ^ k ≤ length sums.old)
         × (names * 2 ^ k ≤ length stops.now) × (names * 2 ^ k ≤ length kept.now) }
-    ensures { (at_exit order ≡ paste (at_entry order) 0 (drop (start_of k name) (at_entry stops)) (2 ^ k))
-        × (at_exit sums ≡ paste (at_entry sums) 0 (drop (start_of k name) (at_entry kept)) (2 ^ k)) }
+    ensures { (order.new ≡ paste order.old 0 (drop (start_of k name) stops.now) (2 ^ k))
+        × (sums.new ≡ paste sums.old 0 (drop (start_of k name) kept.now) (2 ^ k)) }
 {
     let n = stop_count(k);
     let from = (name - 1) * n;
@@ -78,7 +77,7 @@ pub fn bring_back(
 // Sets the marks to 0.
 pub fn clear_marks(marks: &mut [u8])
     requires { names ≤ length marks.old }
-    ensures { at_exit marks ≡ replicate names 0 ++ drop names (at_entry marks) }
+    ensures { marks.new ≡ replicate names 0 ++ drop names marks.old }
 {
     let mut i = 0;
     while i < NAMES {

@@ -2,7 +2,7 @@
 use Rattle.std.specs.Prelude.{◌≡◌, List, ℕ, ◌^◌, leb, length}
 use Rattle.base.specs.Refusal.{wrong_k, wrong_size}
 use Rattle.base.specs.Outcome.{Outcome, gives, refuses, need, giving, after}
-use Rattle.base.specs.Buffer.{Unsigned, at_entry, at_exit}
+use Rattle.base.specs.Buffer.{Unsigned, SharedUnsigned, at_entry, at_exit, contents}
 use Rattle.base.specs.Size.{max_k}
 use Rattle.tree.specs.Total.{entry}
 use Rattle.orders.specs.Lent.{order_fits, bits_fit, table_fits}
@@ -36,8 +36,8 @@ pub record FileIsUnsummed (k : ℕ) (file order order' : List ℕ) (r : FileRead
   pub said : said r ≡ giving (λ f. f.total) (read_unsummed k file (length order))
   pub left : order' ≡ after (read_unsummed k file (length order)) (λ f. f.order) order
 
-abbrev pub ReadsUnsummed : ℕ → Unsigned → Unsigned → FileRead → Type 0
-ReadsUnsummed k file order r = FileIsUnsummed k (at_entry file) (at_entry order) (at_exit order) r
+abbrev pub ReadsUnsummed : ℕ → SharedUnsigned → Unsigned → FileRead → Type 0
+ReadsUnsummed k file order r = FileIsUnsummed k (contents file) (at_entry order) (at_exit order) r
 
 -- and with one: the answer, and the lent places and bytes
 pub record FileIsRead (k : ℕ) (table file order order' bits bits' : List ℕ) (r : FileRead) : Type 0 where
@@ -45,5 +45,5 @@ pub record FileIsRead (k : ℕ) (table file order order' bits bits' : List ℕ) 
   pub order-left : order' ≡ after (read_file k table file (length order) (length bits)) (λ f. f.order) order
   pub bits_left : bits' ≡ after (read_file k table file (length order) (length bits)) (λ f. f.string) bits
 
-abbrev pub ReadsFile : ℕ → Unsigned → Unsigned → Unsigned → Unsigned → FileRead → Type 0
-ReadsFile k table file order bits r = FileIsRead k (at_entry table) (at_entry file) (at_entry order) (at_exit order) (at_entry bits) (at_exit bits) r
+abbrev pub ReadsFile : ℕ → SharedUnsigned → SharedUnsigned → Unsigned → Unsigned → FileRead → Type 0
+ReadsFile k table file order bits r = FileIsRead k (contents table) (contents file) (at_entry order) (at_exit order) (at_entry bits) (at_exit bits) r

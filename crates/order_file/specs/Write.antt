@@ -1,7 +1,7 @@
 -- Writing the file of an order.
 use Rattle.std.specs.Prelude.{◌≡◌, ◌&&◌, List, ℕ, ◌^◌, leb, length}
 use Rattle.base.specs.Outcome.{Outcome, gives, refuses, giving, after}
-use Rattle.base.specs.Buffer.{Unsigned, at_entry, at_exit}
+use Rattle.base.specs.Buffer.{Unsigned, SharedUnsigned, at_entry, at_exit, contents}
 use Rattle.tree.specs.Total.{entry}
 use Rattle.orders.specs.Lent.{lent_order, table_fits}
 use Rattle.order_file.specs.declared.FileWritten.{FileWritten}
@@ -24,5 +24,5 @@ pub record FileIsWritten (k : ℕ) (order table before afterwards : List ℕ) (r
   pub left : afterwards ≡ after (write_file k order table (length before)) (λ file. file) before
 
 -- the same of the call's parameters
-abbrev pub WritesFile : ℕ → Unsigned → Unsigned → Unsigned → FileWritten → Type 0
-WritesFile k order table out r = FileIsWritten k (at_entry order) (at_entry table) (at_entry out) (at_exit out) r
+abbrev pub WritesFile : ℕ → SharedUnsigned → SharedUnsigned → Unsigned → FileWritten → Type 0
+WritesFile k order table out r = FileIsWritten k (contents order) (contents table) (at_entry out) (at_exit out) r

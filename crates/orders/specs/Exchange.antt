@@ -3,7 +3,7 @@
 use Rattle.std.specs.Prelude.{◌≡◌, ◌&&◌, List, ℕ, length, get_or}
 use Rattle.std.specs.Int.Bits.{bit_xor}
 use Rattle.base.specs.Outcome.{Outcome, and_then, giving, done, after}
-use Rattle.base.specs.Buffer.{Unsigned, at_entry, at_exit}
+use Rattle.base.specs.Buffer.{Unsigned, SharedUnsigned, at_entry, at_exit, contents}
 use Rattle.base.specs.Lists.{tabulate}
 use Rattle.tree.specs.Order.{order_of}
 use Rattle.orders.specs.declared.OrderMade.{OrderMade}
@@ -29,8 +29,8 @@ pub record OrderIsExchanged (k : ℕ) (order bits before afterwards : List ℕ) 
   pub left : afterwards ≡ after (exchange_lent k order bits (length before)) (λ o. o) before
 
 -- the same of the call's parameters
-abbrev pub ExchangesForks : ℕ → Unsigned → Unsigned → Unsigned → OrderMade → Type 0
-ExchangesForks k order bits out r = OrderIsExchanged k (at_entry order) (at_entry bits) (at_entry out) (at_exit out) r
+abbrev pub ExchangesForks : ℕ → SharedUnsigned → SharedUnsigned → Unsigned → OrderMade → Type 0
+ExchangesForks k order bits out r = OrderIsExchanged k (contents order) (contents bits) (at_entry out) (at_exit out) r
 
 -- the first m bytes of a string, each with the bits inverted that the other string has there
 unfoldable pub inverted : (m : ℕ) (s t : List ℕ) → List ℕ

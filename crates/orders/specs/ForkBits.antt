@@ -1,7 +1,7 @@
 -- The fork bits of an order.
 use Rattle.std.specs.Prelude.{◌≡◌, List, ℕ, length}
 use Rattle.base.specs.Outcome.{Outcome, gives, refuses, giving, done, after}
-use Rattle.base.specs.Buffer.{Unsigned, at_entry, at_exit}
+use Rattle.base.specs.Buffer.{Unsigned, SharedUnsigned, at_entry, at_exit, contents}
 use Rattle.orders.specs.declared.BitsMade.{BitsMade}
 use Rattle.orders.specs.declared.BitsMade.TheVariants.{Made, Refused}
 use Rattle.orders.specs.Allowed.{forks_of}
@@ -23,5 +23,5 @@ pub record BitsAreMade (k : ℕ) (order before afterwards : List ℕ) (r : BitsM
   pub left : afterwards ≡ after (fork_bits k order (length before)) (λ string. string) before
 
 -- the same of the call's parameters
-abbrev pub MakesBits : ℕ → Unsigned → Unsigned → BitsMade → Type 0
-MakesBits k order bits r = BitsAreMade k (at_entry order) (at_entry bits) (at_exit bits) r
+abbrev pub MakesBits : ℕ → SharedUnsigned → Unsigned → BitsMade → Type 0
+MakesBits k order bits r = BitsAreMade k (contents order) (at_entry bits) (at_exit bits) r

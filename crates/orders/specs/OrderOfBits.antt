@@ -2,7 +2,7 @@
 use Rattle.std.specs.Prelude.{◌≡◌, List, ℕ, leb, length}
 use Rattle.base.specs.Refusal.{wrong_k, wrong_size}
 use Rattle.base.specs.Outcome.{Outcome, gives, refuses, need, giving, done, after}
-use Rattle.base.specs.Buffer.{Unsigned, at_entry, at_exit}
+use Rattle.base.specs.Buffer.{Unsigned, SharedUnsigned, at_entry, at_exit, contents}
 use Rattle.base.specs.Size.{max_k}
 use Rattle.tree.specs.Order.{order_of}
 use Rattle.orders.specs.declared.OrderMade.{OrderMade}
@@ -29,5 +29,5 @@ pub record OrderIsMade (k : ℕ) (bits before afterwards : List ℕ) (r : OrderM
   pub left : afterwards ≡ after (order_of_bits k bits (length before)) (λ order. order) before
 
 -- the same of the call's parameters
-abbrev pub MakesOrder : ℕ → Unsigned → Unsigned → OrderMade → Type 0
-MakesOrder k bits order r = OrderIsMade k (at_entry bits) (at_entry order) (at_exit order) r
+abbrev pub MakesOrder : ℕ → SharedUnsigned → Unsigned → OrderMade → Type 0
+MakesOrder k bits order r = OrderIsMade k (contents bits) (at_entry order) (at_exit order) r

@@ -12,7 +12,6 @@ mod places;
 mod sum;
 
 ghost use Rattle.std.specs.Prelude.{◌≡◌};
-ghost use Rattle.base.specs.Buffer.{at_entry};
 ghost use Rattle.base.specs.Size.{stop_count};
 ghost use Rattle.orders.specs.Bits.{byte_count};
 ghost use Rattle.orders.specs.Exchange.{ExchangesForks};
@@ -93,7 +92,7 @@ pub fn exchange(k: u16, order: &[u16], bits: &[u8], out: &mut [u16]) -> OrderMad
 // The total of an order by a table of n² entries. Refused are k above 10 (5), an order too short or a table of another length (8), a
 // stop number n or more (9) and an order that is not allowed (10).
 pub fn order_total(k: u16, order: &[u16], table: &[u32]) -> OrderTotal
-    ensures { said result ≡ order_total k (at_entry order) (at_entry table) }
+    ensures { said result ≡ order_total k order.now table.now }
 {
     let n = stop_count(k);
     let refused = judge_lent(k, order, table.len() == n * n);

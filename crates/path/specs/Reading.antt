@@ -2,8 +2,8 @@
 use Rattle.std.specs.Prelude.{◌≡◌, List, ℕ, ◌^◌}
 use Rattle.base.specs.Refusal.{wrong_size}
 use Rattle.base.specs.Outcome.{Outcome, gives, refuses, need, giving, number, value, left}
-use Rattle.base.specs.Buffer.{Unsigned, Signed, at_entry}
-use Rattle.stop.specs.Lent.{LentStops, lent_stops, left_stops, over_stops, stops_fit}
+use Rattle.base.specs.Buffer.{Unsigned, Signed, SharedUnsigned, contents}
+use Rattle.stop.specs.Lent.{LentStops, stops_before, left_stops, over_stops, stops_fit}
 use Rattle.path.specs.declared.Head.{Head}
 use Rattle.path.specs.declared.PathRead.{PathRead}
 use Rattle.path.specs.declared.PathRead.TheVariants.{Read, Refused}
@@ -48,6 +48,6 @@ pub record PathIsRead (bytes : List ℕ) (highest : ℕ) (before afterwards : Le
   pub left : afterwards ≡ left (read_into bytes highest before) (λ p. over_stops p.stops before) before
 
 -- the same of the call's parameters
-abbrev pub ReadsPath : Unsigned → ℕ → Signed → Unsigned → Unsigned → Unsigned → PathRead → Type 0
+abbrev pub ReadsPath : SharedUnsigned → ℕ → Signed → Unsigned → Unsigned → Unsigned → PathRead → Type 0
 ReadsPath bytes highest coords speeds blends dwells r =
-    PathIsRead (at_entry bytes) highest (lent_stops coords speeds blends dwells) (left_stops coords speeds blends dwells) r
+    PathIsRead (contents bytes) highest (stops_before coords speeds blends dwells) (left_stops coords speeds blends dwells) r

@@ -2,7 +2,7 @@
 use Rattle.std.specs.Prelude.{◌≡◌, Bool, true, false, ◌&&◌, ◌||◌, not, List, [], ◌∷◌, ◌++◌, ℕ, ◌^◌, leb, eqb, ℤ, pos, length, drop, get_or}
 use Rattle.base.specs.Refusal.{wrong_version, wrong_k, wrong_size, lost_field}
 use Rattle.base.specs.Outcome.{Outcome, gives, refuses, need, and_then, giving, after}
-use Rattle.base.specs.Buffer.{Unsigned, Signed, at_entry, at_exit}
+use Rattle.base.specs.Buffer.{Unsigned, SharedUnsigned, SharedSigned, at_entry, at_exit, contents}
 use Rattle.base.specs.Size.{max_k}
 use Rattle.records.specs.Field.{bytes_of, unsigned, write_fields}
 use Rattle.records.specs.Record.{stop_fields, record_bytes, path_kind, stop_kind, end_kind}
@@ -78,13 +78,13 @@ pub record BytesAreWritten (o : Outcome (List ℕ)) (before afterwards : List �
   pub left : afterwards ≡ after o (λ bytes. bytes) before
 
 -- the same of the parameters of each call
-abbrev pub WritesPath : ℕ → ℕ → Signed → Unsigned → Unsigned → Unsigned → Unsigned → PathWritten → Type 0
+abbrev pub WritesPath : ℕ → ℕ → SharedSigned → SharedUnsigned → SharedUnsigned → SharedUnsigned → Unsigned → PathWritten → Type 0
 WritesPath version k coords speeds blends dwells out r =
     BytesAreWritten (write_path version k (lent_stops coords speeds blends dwells) (length (at_entry out))) (at_entry out) (at_exit out) r
 
-abbrev pub RewritesPath : Unsigned → ℕ → ℕ → ℕ → Unsigned → PathWritten → Type 0
+abbrev pub RewritesPath : SharedUnsigned → ℕ → ℕ → ℕ → Unsigned → PathWritten → Type 0
 RewritesPath bytes version k wanted out r =
-    BytesAreWritten (rewrite_after_head (at_entry bytes) version k wanted (length (at_entry out))) (at_entry out) (at_exit out) r
+    BytesAreWritten (rewrite_after_head (contents bytes) version k wanted (length (at_entry out))) (at_entry out) (at_exit out) r
 
 -- ---- the parts of a stop's content, as they are written one after the other
 

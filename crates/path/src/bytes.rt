@@ -1,7 +1,6 @@
 // The fields of a stop's record that lies within the bytes, read with no test for each byte. These functions have a `requires`: the module
 // is private.
 ghost use Rattle.std.specs.Prelude.{◌≡◌, ◌+◌, ◌≤◌, length, take, drop};
-ghost use Rattle.base.specs.Buffer.{at_entry};
 ghost use Rattle.records.specs.Field.{number_of, signed};
 ghost use Rattle.path.specs.Path.{stop_of, stop_size, stop_place, stop_in};
 ghost use Rattle.path.specs.Local.{field_since};
@@ -13,7 +12,7 @@ use stop::Stop;
 // The number of the two bytes from `at` on.
 pub fn word16(bytes: &[u8], at: usize) -> u16
     requires { at + 2 ≤ length bytes.now }
-    ensures { result ≡ number_of (take 2 (drop at (at_entry bytes))) }
+    ensures { result ≡ number_of (take 2 (drop at bytes.now)) }
 {
     (bytes[at] as u16) + 256 * (bytes[at + 1] as u16)
 }
@@ -21,7 +20,7 @@ pub fn word16(bytes: &[u8], at: usize) -> u16
 // The number of the four bytes from `at` on.
 fn word32(bytes: &[u8], at: usize) -> u32
     requires { at + 4 ≤ length bytes.now }
-    ensures { result ≡ number_of (take 4 (drop at (at_entry bytes))) }
+    ensures { result ≡ number_of (take 4 (drop at bytes.now)) }
 {
     (word16(bytes, at) as u32) + 65536 * (word16(bytes, at + 2) as u32)
 }
@@ -29,7 +28,7 @@ fn word32(bytes: &[u8], at: usize) -> u32
 // The coordinate in the four bytes from `at` on.
 fn coordinate_in(bytes: &[u8], at: usize) -> i32
     requires { at + 4 ≤ length bytes.now }
-    ensures { result ≡ signed (number_of (take 4 (drop at (at_entry bytes)))) }
+    ensures { result ≡ signed (number_of (take 4 (drop at bytes.now))) }
 {
     records::to_signed(word32(bytes, at))
 }
@@ -37,7 +36,7 @@ fn coordinate_in(bytes: &[u8], at: usize) -> i32
 // The 2-byte field at `at` that stops have from version `since` on: 0 in an older version.
 fn field_since(bytes: &[u8], since: u16, version: u16, at: usize) -> u16
     requires { since ≤ version → at + 2 ≤ length bytes.now }
-    ensures { result ≡ field_since since version (drop at (at_entry bytes)) }
+    ensures { result ≡ field_since since version (drop at bytes.now) }
 {
     if version < since {
         return 0;
@@ -48,7 +47,7 @@ fn field_since(bytes: &[u8], since: u16, version: u16, at: usize) -> u16
 // The stop whose content begins at `at`.
 pub fn stop_in(bytes: &[u8], version: u16, at: usize) -> Stop
     requires { at + stop_size version ≤ 4 + length bytes.now }
-    ensures { result ≡ stop_of version (drop at (at_entry bytes)) }
+    ensures { result ≡ stop_of version (drop at bytes.now) }
 {
     Stop {
         at: [
@@ -65,7 +64,7 @@ pub fn stop_in(bytes: &[u8], version: u16, at: usize) -> Stop
 // Stop i of path bytes whose record lies within them: nothing is tested.
 pub fn stop_within(bytes: &[u8], version: u16, i: usize) -> Stop
     requires { stop_place version i + stop_size version ≤ length bytes.now }
-    ensures { result ≡ stop_in version i (at_entry bytes) }
+    ensures { result ≡ stop_in version i bytes.now }
 {
     stop_in(bytes, version, HEAD_SIZE + 4 + i * stop_size(version))
 }

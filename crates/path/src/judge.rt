@@ -2,7 +2,6 @@
 // judged bytes can be read at any stop.
 ghost use Rattle.std.specs.Prelude.{◌≡◌, ◌+◌, ◌*◌, ◌≤◌, min, eqb, length, drop};
 ghost use Rattle.base.specs.Outcome.{refuses, number};
-ghost use Rattle.base.specs.Buffer.{at_entry};
 ghost use Rattle.records.specs.Record.{record_length, take_record, stop_kind};
 ghost use Rattle.path.specs.Path.{known_version, read_head, read_body, read_stop, body_after_head, stop_place, stop_size, stop_in};
 ghost use Rattle.stop.specs.Stop.{zero_stop};
@@ -44,7 +43,7 @@ pub fn no_head(refused: u16) -> Head
 
 // The head of a path, for a caller that knows versions up to `highest`.
 pub fn judge_head(bytes: &[u8], highest: u16) -> Head
-    ensures { result ≡ head_given (read_head (at_entry bytes) highest) }
+    ensures { result ≡ head_given (read_head bytes.now highest) }
 {
     if !known_version(highest) {
         return no_head(WRONG_VERSION);
@@ -81,7 +80,7 @@ pub fn stop_size(version: u16) -> usize
 // Where the record of stop i begins. A place past the end of the bytes is as good as any other there; a stop number of 2^59 or more, whose
 // place would not fit, always lies there.
 fn stop_place(bytes: &[u8], version: u16, i: usize) -> usize
-    ensures { result ≡ min (stop_place version i) (8 + length (at_entry bytes)) }
+    ensures { result ≡ min (stop_place version i) (8 + length bytes.now) }
 {
     let past = HEAD_SIZE + bytes.len();
     if 0x0800_0000_0000_0000 <= i {
@@ -108,7 +107,7 @@ fn no_stop() -> Stop
 
 // Stop i of path bytes; of bytes that were not judged, zeros where its record does not lie within them.
 pub fn stop_from(bytes: &[u8], version: u16, i: usize) -> Stop
-    ensures { result ≡ stop_in version i (at_entry bytes) }
+    ensures { result ≡ stop_in version i bytes.now }
 {
     let at = stop_place(bytes, version, i);
     if bytes.len() < at + stop_size(version) {
@@ -119,7 +118,7 @@ pub fn stop_from(bytes: &[u8], version: u16, i: usize) -> Stop
 
 // 0, or the refusal of a record of a kind at the place of stop i.
 fn judge_place(bytes: &[u8], version: u16, i: usize, kind: u16) -> u16
-    ensures { result ≡ number (take_record kind (record_length kind version 0) (drop (stop_place version i) (at_entry bytes))) }
+    ensures { result ≡ number (take_record kind (record_length kind version 0) (drop (stop_place version i) bytes.now)) }
 {
     let at = stop_place(bytes, version, i);
     judge_record(bytes, at, kind, record_length(kind, version))
@@ -128,7 +127,7 @@ fn judge_place(bytes: &[u8], version: u16, i: usize, kind: u16) -> u16
 // Whether a stop's record lies whole at `at`: one answer for a good record, found quickly. What else stands there is for `judge_record` to say.
 fn is_stop(bytes: &[u8], version: u16, at: usize) -> bool
     requires { at ≤ 8 + length bytes.now }
-    ensures { result ≡ eqb (number (take_record stop_kind (record_length stop_kind version 0) (drop at (at_entry bytes)))) 0 }
+    ensures { result ≡ eqb (number (take_record stop_kind (record_length stop_kind version 0) (drop at bytes.now))) 0 }
 {
     let long = record_length(STOP, version);
     if bytes.len() < at + 2 + long {
@@ -142,7 +141,7 @@ fn is_stop(bytes: &[u8], version: u16, at: usize) -> bool
 
 // 0, or the refusal of the record of stop i: its own, or that of its fields.
 pub fn judge_stop(bytes: &[u8], version: u16, i: usize) -> u16
-    ensures { result ≡ number (read_stop version (drop (stop_place version i) (at_entry bytes))) }
+    ensures { result ≡ number (read_stop version (drop (stop_place version i) bytes.now)) }
 {
     let at = stop_place(bytes, version, i);
     if !is_stop(bytes, version, at) {
@@ -155,7 +154,7 @@ pub fn judge_stop(bytes: &[u8], version: u16, i: usize) -> u16
 
 // 0, or the refusal of the end of a path of `count` stops.
 pub fn judge_end(bytes: &[u8], version: u16, count: usize) -> u16
-    ensures { result ≡ number (read_body version 0 (drop (stop_place version count) (at_entry bytes))) }
+    ensures { result ≡ number (read_body version 0 (drop (stop_place version count) bytes.now)) }
 {
     let refused = judge_place(bytes, version, count, END);
     if refused != 0 {
@@ -169,7 +168,7 @@ pub fn judge_end(bytes: &[u8], version: u16, count: usize) -> u16
 
 // 0, or the first refusal of `count` stops and the end.
 fn judge_stops(bytes: &[u8], version: u16, count: usize) -> u16
-    ensures { result ≡ number (read_body version count (drop 8 (at_entry bytes))) }
+    ensures { result ≡ number (read_body version count (drop 8 bytes.now)) }
 {
     for i in 0..count {
         let refused = judge_stop(bytes, version, i);
@@ -182,7 +181,7 @@ fn judge_stops(bytes: &[u8], version: u16, count: usize) -> u16
 
 // 0, or the first refusal after the head of a path of 2^k stops; the version and k that the head gave are tested again.
 pub fn judge_body(bytes: &[u8], version: u16, k: u16) -> u16
-    ensures { result ≡ number (body_after_head (at_entry bytes) version k) }
+    ensures { result ≡ number (body_after_head bytes.now version k) }
 {
     if !known_version(version) {
         return WRONG_VERSION;

@@ -1,6 +1,5 @@
 // Paths read into lent buffers.
 ghost use Rattle.std.specs.Prelude.{◌≡◌};
-ghost use Rattle.base.specs.Buffer.{at_entry};
 ghost use Rattle.stop.specs.Lent.{lent_stops, stops_fit};
 ghost use Rattle.path.specs.Reading.{path_given, read_into, ReadsPath};
 
@@ -34,7 +33,7 @@ fn judge_path(
     blends: &[u16],
     dwells: &[u16],
 ) -> Head
-    ensures { result ≡ path_given (read_into (at_entry bytes) highest (lent_stops coords speeds blends dwells)) }
+    ensures { result ≡ path_given (read_into bytes.now highest (lent_stops coords speeds blends dwells)) }
 {
     let head = judge_head(bytes, highest);
     let version = head.version;

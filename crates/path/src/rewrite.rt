@@ -1,7 +1,6 @@
 // Path bytes written in another version, from bytes to bytes.
 ghost use Rattle.std.specs.Prelude.{◌≡◌, ◌≤◌, ◌^◌, length};
 ghost use Rattle.base.specs.Outcome.{over, number};
-ghost use Rattle.base.specs.Buffer.{at_entry, at_exit};
 ghost use Rattle.base.specs.Size.{max_k};
 ghost use Rattle.records.specs.Put.{put};
 ghost use Rattle.path.specs.Path.{stops_in, stop_place, path_size};
@@ -17,7 +16,7 @@ use base::{WRONG_VERSION, stop_count};
 // Whether a version lacks a field that is not 0 of one of the first `count` stops of path bytes. One that is no older lacks none.
 fn loses_in(wanted: u16, bytes: &[u8], version: u16, count: usize) -> bool
     requires { stop_place version count ≤ length bytes.now }
-    ensures { result ≡ loses_any wanted (stops_in version count (at_entry bytes)) }
+    ensures { result ≡ loses_any wanted (stops_in version count bytes.now) }
 {
     if version <= wanted {
         return false;
@@ -33,7 +32,7 @@ fn loses_in(wanted: u16, bytes: &[u8], version: u16, count: usize) -> bool
 // Stores the records of the first `count` stops of path bytes.
 fn store_records(bytes: &[u8], version: u16, count: usize, wanted: u16, out: &mut [u8])
     requires { (stop_place wanted count ≤ length out.old) × (stop_place version count ≤ length bytes.now) }
-    ensures { at_exit out ≡ put (at_entry out) 8 (stops_bytes wanted (stops_in version count (at_entry bytes))) }
+    ensures { out.new ≡ put out.old 8 (stops_bytes wanted (stops_in version count bytes.now)) }
 {
     let size = stop_size(wanted);
     for i in 0..count {
@@ -49,7 +48,7 @@ fn store_records(bytes: &[u8], version: u16, count: usize, wanted: u16, out: &mu
 // Stores the path of the first 2^k stops of path bytes in another version.
 fn store_rewritten(bytes: &[u8], version: u16, k: u16, wanted: u16, out: &mut [u8])
     requires { (k ≤ max_k) × (path_size wanted k ≤ length out.old) × (stop_place version (2 ^ k) ≤ length bytes.now) }
-    ensures { at_exit out ≡ over (path_bytes wanted k (stops_in version (2 ^ k) (at_entry bytes))) (at_entry out) }
+    ensures { out.new ≡ over (path_bytes wanted k (stops_in version (2 ^ k) bytes.now)) out.old }
 {
     let count = stop_count(k);
     put_head(out, wanted, k);
@@ -59,7 +58,7 @@ fn store_rewritten(bytes: &[u8], version: u16, k: u16, wanted: u16, out: &mut [u
 
 // 0, or the refusal of writing path bytes in another version to an output of `room` bytes.
 fn judge_rewrite(bytes: &[u8], version: u16, k: u16, wanted: u16, room: usize) -> u16
-    ensures { result ≡ number (rewrite_after_head (at_entry bytes) version k wanted room) }
+    ensures { result ≡ number (rewrite_after_head bytes.now version k wanted room) }
 {
     let refused = judge_body(bytes, version, k);
     if refused != 0 {

@@ -1,7 +1,7 @@
 -- A call that plans a path: what it answers, and what it leaves in the lent buffers.
 use Rattle.std.specs.Prelude.{◌≡◌, List, ℕ, ◌^◌, length, take}
 use Rattle.base.specs.Outcome.{Outcome, gives, refuses, giving, after}
-use Rattle.base.specs.Buffer.{Unsigned, at_entry, at_exit}
+use Rattle.base.specs.Buffer.{Unsigned, SharedUnsigned, at_entry, at_exit, contents}
 use Rattle.path.specs.Path.{Path, read_path}
 use Rattle.times.specs.Table.{entry_of, table_of}
 use Rattle.tree.specs.Total.{total}
@@ -46,8 +46,8 @@ pub record PathIsPlanned (bytes : List ℕ) (highest : ℕ) (o : Outcome Path) (
   pub claim : (version k t : ℕ) → r ≡ Done version k t → ShortestFor bytes highest k (take (2 ^ k) order') t
 
 -- the same of the call's parameters
-abbrev pub PlansPath : Unsigned → ℕ → Unsigned → Unsigned → Unsigned → Unsigned → PathPlanned → Type 0
+abbrev pub PlansPath : SharedUnsigned → ℕ → Unsigned → Unsigned → Unsigned → Unsigned → PathPlanned → Type 0
 PlansPath bytes highest table order totals pivots r =
-    PathIsPlanned (at_entry bytes) highest
-    (plan_path (at_entry bytes) highest (length (at_entry table)) (length (at_entry order)) (length (at_entry totals)) (length (at_entry pivots)))
+    PathIsPlanned (contents bytes) highest
+    (plan_path (contents bytes) highest (length (at_entry table)) (length (at_entry order)) (length (at_entry totals)) (length (at_entry pivots)))
     (at_entry table) (at_entry order) (at_entry totals) (at_entry pivots) (at_exit table) (at_exit order) (at_exit totals) (at_exit pivots) r

@@ -5,7 +5,6 @@
 #![tactic(auto)]
 
 ghost use Rattle.std.specs.Prelude.{◌≡◌, ◌≤◌, length};
-ghost use Rattle.base.specs.Buffer.{at_entry, at_exit};
 ghost use Rattle.records.specs.Put.{put};
 ghost use Rattle.plan_output.specs.Output.{refused_bytes, IsOutput};
 
@@ -35,7 +34,7 @@ pub struct Output {
 // Writes the kind 7 record of a refusal.
 fn put_refused(out: &mut [u8], number: u16)
     requires { 6 ≤ length out.old }
-    ensures { at_exit out ≡ put (at_entry out) 0 (refused_bytes number) }
+    ensures { out.new ≡ put out.old 0 (refused_bytes number) }
 {
     put_pair(out, 0, record_length(REFUSED, HIGHEST) as u16, REFUSED);
     put16(out, 4, number);
@@ -43,7 +42,7 @@ fn put_refused(out: &mut [u8], number: u16)
 
 // The output for path bytes, of any length.
 pub fn output_for(path: &[u8]) -> Output
-    ensures { IsOutput (at_entry path) result.bytes result.count }
+    ensures { IsOutput path.now result.bytes result.count }
 {
     let mut bytes = [0u8; LONGEST_FILE];
     let answer = plan_file(path, HIGHEST, &mut bytes);

@@ -2,7 +2,7 @@
 use Rattle.std.specs.Prelude.{Bool, true, cond, List, ℕ, zero, suc, ◌+◌, ◌*◌, ◌^◌, ◌≤◌, ◌<◌, ltb, length}
 use Rattle.base.specs.Refusal.{no_such_fork}
 use Rattle.base.specs.Outcome.{Outcome, gives, need, and_then}
-use Rattle.base.specs.Buffer.{Unsigned, at_entry, at_exit}
+use Rattle.base.specs.Buffer.{Unsigned, SharedUnsigned, at_entry, at_exit, contents}
 use Rattle.stop.specs.declared.Stop.{Stop}
 use Rattle.path.specs.Path.{body_after_head}
 use Rattle.times.specs.Table.{entry_of}
@@ -38,9 +38,9 @@ plan_held bytes version k fork state order totals pivots =
     (gives (held_plan k stops fork state))))
 
 -- the promise, of the call's parameters
-abbrev pub PlansHeld : Unsigned → ℕ → ℕ → ℕ → Bool → Unsigned → Unsigned → Unsigned → Ordered → Type 0
+abbrev pub PlansHeld : SharedUnsigned → ℕ → ℕ → ℕ → Bool → Unsigned → Unsigned → Unsigned → Ordered → Type 0
 PlansHeld bytes version k fork exchanged order totals pivots r =
-    OrderIsWritten k (plan_held (at_entry bytes) version k fork (state_of exchanged) (length (at_entry order)) (length (at_entry totals)) (length (at_entry pivots)))
+    OrderIsWritten k (plan_held (contents bytes) version k fork (state_of exchanged) (length (at_entry order)) (length (at_entry totals)) (length (at_entry pivots)))
     (at_entry order) (at_entry totals) (at_entry pivots) (at_exit order) (at_exit totals) (at_exit pivots) r
 
 -- ---- the method

@@ -2,7 +2,7 @@
 use Rattle.std.specs.Prelude.{◌≡◌, List, ℕ, ◌*◌, ◌^◌, eqb, length}
 use Rattle.base.specs.Refusal.{wrong_size}
 use Rattle.base.specs.Outcome.{Outcome, gives, refuses, and_then, need, giving, after}
-use Rattle.base.specs.Buffer.{Unsigned, at_entry, at_exit}
+use Rattle.base.specs.Buffer.{Unsigned, SharedUnsigned, at_entry, at_exit, contents}
 use Rattle.tree.specs.Total.{entry}
 use Rattle.tree.specs.Wanted.{wanted, every}
 use Rattle.costs.specs.Costs.{placed_total}
@@ -39,7 +39,7 @@ pub record OrderIsWritten (k : ℕ) (o : Outcome Plan) (order totals pivots orde
   pub cleared_pivots : pivots' ≡ after o (λ p. cleared k) pivots
 
 -- the same of the call's parameters
-abbrev pub PlansPlaces : ℕ → Unsigned → Unsigned → Unsigned → Unsigned → Unsigned → Ordered → Type 0
+abbrev pub PlansPlaces : ℕ → SharedUnsigned → SharedUnsigned → Unsigned → Unsigned → Unsigned → Ordered → Type 0
 PlansPlaces k table places order totals pivots r =
-    OrderIsWritten k (plan_places k (at_entry table) (at_entry places) (length (at_entry order)) (length (at_entry totals)) (length (at_entry pivots)))
+    OrderIsWritten k (plan_places k (contents table) (contents places) (length (at_entry order)) (length (at_entry totals)) (length (at_entry pivots)))
     (at_entry order) (at_entry totals) (at_entry pivots) (at_exit order) (at_exit totals) (at_exit pivots) r

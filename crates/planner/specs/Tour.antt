@@ -2,7 +2,7 @@
 use Rattle.std.specs.Prelude.{◌≡◌, List, ℕ, ◌*◌, ◌-◌, ◌^◌, ◌≤◌, ◌<◌, leb, length}
 use Rattle.base.specs.Refusal.{wrong_k}
 use Rattle.base.specs.Outcome.{Outcome, need, giving}
-use Rattle.base.specs.Buffer.{Unsigned, at_entry, at_exit}
+use Rattle.base.specs.Buffer.{Unsigned, SharedUnsigned, at_entry, at_exit, contents}
 use Rattle.walks.specs.Walk.{Graph}
 use Rattle.walks.specs.Rows.{line, Codes}
 use Rattle.tree.specs.Total.{entry}
@@ -35,9 +35,9 @@ abbrev pub plan_tour : (k : ℕ) (table : List ℕ) (order totals pivots : ℕ) 
 plan_tour k table order totals pivots = giving (λ room. tour_plan k table) (tour_room k (length table) order totals pivots)
 
 -- the promise, of the call's parameters
-abbrev pub PlansTour : ℕ → Unsigned → Unsigned → Unsigned → Unsigned → Ordered → Type 0
+abbrev pub PlansTour : ℕ → SharedUnsigned → Unsigned → Unsigned → Unsigned → Ordered → Type 0
 PlansTour k table order totals pivots r =
-    OrderIsWritten k (plan_tour k (at_entry table) (length (at_entry order)) (length (at_entry totals)) (length (at_entry pivots)))
+    OrderIsWritten k (plan_tour k (contents table) (length (at_entry order)) (length (at_entry totals)) (length (at_entry pivots)))
     (at_entry order) (at_entry totals) (at_entry pivots) (at_exit order) (at_exit totals) (at_exit pivots) r
 
 -- ---- the method

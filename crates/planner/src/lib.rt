@@ -13,7 +13,6 @@ mod lent;
 mod round;
 
 ghost use Rattle.std.specs.Prelude.{◌≡◌, ℕ, ◌≤◌};
-ghost use Rattle.base.specs.Buffer.{at_entry};
 ghost use Rattle.base.specs.Outcome.{number};
 ghost use Rattle.planner.specs.Weighings.{foretold_weighings, foretold, foresaid};
 ghost use Rattle.planner.specs.Plan.{plan_room, PlansOrder};
@@ -225,7 +224,7 @@ fn judge_held(
     totals: usize,
     pivots: usize,
 ) -> u16
-    ensures { (state : ℕ) → result ≡ number (plan_held (at_entry bytes) version k fork state order totals pivots) }
+    ensures { (state : ℕ) → result ≡ number (plan_held bytes.now version k fork state order totals pivots) }
 {
     let n = base::stop_count(k);
     let refused = judge_lengths(k, n * n, order, totals, pivots);

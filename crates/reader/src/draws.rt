@@ -1,6 +1,5 @@
 // One draw from a cursor, and draw d by so many of them.
 ghost use Rattle.std.specs.Prelude.{◌≡◌};
-ghost use Rattle.base.specs.Buffer.{at_entry};
 ghost use Rattle.stop.specs.Stop.{zero_stop};
 ghost use Rattle.path.specs.Draw.{drawn, ended, draw_refused, draw_at};
 ghost use Rattle.reader.specs.Draws.{draw_answer, stop_before, draw_of, step_at};
@@ -67,7 +66,7 @@ fn stop_before(version: u16, at: usize) -> usize
 
 // The draw at stop i of a path of `count` stops.
 fn draw_of(bytes: &[u8], version: u16, count: usize, i: usize) -> Drawn
-    ensures { result ≡ draw_answer (draw_of (at_entry bytes) version count i) }
+    ensures { result ≡ draw_answer (draw_of bytes.now version count i) }
 {
     if i < count {
         let refused = judge_stop(bytes, version, i);
@@ -86,7 +85,7 @@ fn draw_of(bytes: &[u8], version: u16, count: usize, i: usize) -> Drawn
 // One draw from a cursor by a reader that knows versions up to `version`. The head is judged at each draw, so that no cursor and no
 // version is taken on trust.
 pub fn draw_at(bytes: &[u8], at: usize, version: u16) -> Step
-    ensures { result ≡ step_at (at_entry bytes) at version }
+    ensures { result ≡ step_at bytes.now at version }
 {
     let head = judge_head(bytes, version);
     let refused = head.refused;
@@ -113,7 +112,7 @@ pub fn draw_at(bytes: &[u8], at: usize, version: u16) -> Step
 
 // Draw d, counted from 0, from path bytes by a reader that knows versions up to `highest`.
 pub fn draw_number(bytes: &[u8], highest: u16, d: usize) -> Drawn
-    ensures { result ≡ draw_answer (draw_at (at_entry bytes) highest d) }
+    ensures { result ≡ draw_answer (draw_at bytes.now highest d) }
 {
     let mut step = draw_at(bytes, 0, highest);
     for _i in 0..d {

@@ -9,7 +9,6 @@
 mod draws;
 
 ghost use Rattle.std.specs.Prelude.{◌≡◌};
-ghost use Rattle.base.specs.Buffer.{at_entry};
 ghost use Rattle.reader.specs.Draws.{step_at, opened, DrawsNext};
 
 pub use draws::{draw_at, draw_number};
@@ -72,7 +71,7 @@ pub fn draw<'s, 'a>(r: &'s mut Reader<'a>) -> Drawn
 
 // One draw by a reader that stands at a cursor, and where it stands then, for callers that hold no reader.
 pub fn draw_from(bytes: &[u8], at: usize, version: u16) -> Step
-    ensures { result ≡ step_at (at_entry bytes) at version }
+    ensures { result ≡ step_at bytes.now at version }
 {
     let mut r = Reader {
         src: bytes,

@@ -1,6 +1,6 @@
 -- A pass over a block of places: what it asks, what it leaves, and how many candidates it weighs.
 use Rattle.std.specs.Prelude.{◌≡◌, Bool, true, false, List, ℕ, zero, suc, ◌+◌, ◌*◌, ◌-◌, ◌^◌, ◌≤◌, ◌<◌, length, get_or}
-use Rattle.base.specs.Buffer.{Unsigned, at_entry, at_exit}
+use Rattle.base.specs.Buffer.{Unsigned, SharedUnsigned, at_entry, at_exit}
 use Rattle.walks.specs.Walk.{Graph}
 use Rattle.walks.specs.Rows.{line, Codes}
 use Rattle.tree.specs.Neighbour.{reach, may_follow}
@@ -65,7 +65,7 @@ pub record PassMade (c : Costs) (s : Sources) (before left base m : ℕ) (B P B'
   pub refused : (PassReady c s (length B) (length P) before left base m → ⊥) → (r ≡ 0) × (B' ≡ B) × (P' ≡ P)
 
 -- the same of a call's parameters
-abbrev pub MakesPass : Costs → Unsigned → Unsigned → Unsigned → Unsigned → Unsigned → (before left base m : ℕ) → ℕ → Type 0
+abbrev pub MakesPass : Costs → SharedUnsigned → SharedUnsigned → SharedUnsigned → Unsigned → Unsigned → (before left base m : ℕ) → ℕ → Type 0
 MakesPass c table places path totals pivots before left base m r =
     PassMade c (lent_sources table places path) before left base m (at_entry totals) (at_entry pivots) (at_exit totals) (at_exit pivots) r
 

@@ -1,7 +1,7 @@
 -- What a call's numbers and lent slices mean as costs. Only the functions that read a cost look in here.
 use Rattle.std.specs.Prelude.{◌≡◌, Bool, true, cond, List, ℕ, ◌+◌, ◌*◌, ◌/◌, ◌%◌, ◌^◌, ◌≤◌, ◌<◌, eqb, length}
 use Rattle.std.specs.Borrow.{Bor}
-use Rattle.base.specs.Buffer.{Unsigned, at_entry}
+use Rattle.base.specs.Buffer.{SharedUnsigned, contents}
 use Rattle.tree.specs.Fork.{bit}
 use Rattle.tree.specs.Total.{entry}
 use Rattle.times.specs.InPath.{time_in}
@@ -19,8 +19,8 @@ abbrev pub held_sources : Bor (List ℕ) → Bor (List ℕ) → Bor (List ℕ) �
 held_sources table places path = record { table = table.now; places = places.now; path = path.now }
 
 -- and as an `ensures` has them
-abbrev pub lent_sources : Unsigned → Unsigned → Unsigned → Sources
-lent_sources table places path = record { table = at_entry table; places = at_entry places; path = at_entry path }
+abbrev pub lent_sources : SharedUnsigned → SharedUnsigned → SharedUnsigned → Sources
+lent_sources table places path = record { table = contents table; places = contents places; path = contents path }
 
 -- M-101, a fork held in a state: stop i may stand in place p. The stops below the fork make 2^(level+1); of these the one side may stand only where bit
 -- `level` of the place is the stop's own, inverted if the state is 1. Every other stop may stand anywhere, and fork 0 is none
@@ -41,7 +41,7 @@ costs_of c s = record {
 }
 
 -- the same of the parameters
-abbrev pub lent_costs : Costs → Unsigned → Unsigned → Unsigned → Costing
+abbrev pub lent_costs : Costs → SharedUnsigned → SharedUnsigned → SharedUnsigned → Costing
 lent_costs c table places path = costs_of c (lent_sources table places path)
 
 abbrev pub held_costs : Costs → Bor (List ℕ) → Bor (List ℕ) → Bor (List ℕ) → Costing

@@ -3,7 +3,7 @@
 use Rattle.std.specs.Prelude.{◌≡◌, List, ℕ, ◌^◌, leb, length}
 use Rattle.base.specs.Refusal.{wrong_size}
 use Rattle.base.specs.Outcome.{Outcome, gives, refuses, need, and_then, giving, done, after}
-use Rattle.base.specs.Buffer.{Unsigned, at_entry, at_exit}
+use Rattle.base.specs.Buffer.{Unsigned, SharedUnsigned, at_entry, at_exit, contents}
 use Rattle.path.specs.Path.{read_path}
 use Rattle.times.specs.Table.{entry_of}
 use Rattle.orders.specs.Allowed.{judge_order}
@@ -53,9 +53,9 @@ pub record ForkIsExchanged (bytes : List ℕ) (highest fork : ℕ) (order sums o
   pub left_sums : sums' ≡ after (exchange_records bytes highest fork order sums) (λ made. made.sums) sums
 
 -- the same of the parameters of each call
-abbrev pub MakesSums : Unsigned → ℕ → Unsigned → Unsigned → RecordsMade → Type 0
-MakesSums bytes highest order sums r = SumsAreMade (at_entry bytes) highest (at_entry order) (at_entry sums) (at_exit sums) r
+abbrev pub MakesSums : SharedUnsigned → ℕ → SharedUnsigned → Unsigned → RecordsMade → Type 0
+MakesSums bytes highest order sums r = SumsAreMade (contents bytes) highest (contents order) (at_entry sums) (at_exit sums) r
 
-abbrev pub ExchangesFork : Unsigned → ℕ → ℕ → Unsigned → Unsigned → RecordsMade → Type 0
+abbrev pub ExchangesFork : SharedUnsigned → ℕ → ℕ → Unsigned → Unsigned → RecordsMade → Type 0
 ExchangesFork bytes highest fork order sums r =
-    ForkIsExchanged (at_entry bytes) highest fork (at_entry order) (at_entry sums) (at_exit order) (at_exit sums) r
+    ForkIsExchanged (contents bytes) highest fork (at_entry order) (at_entry sums) (at_exit order) (at_exit sums) r

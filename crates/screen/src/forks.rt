@@ -1,6 +1,5 @@
 // Forks and places. Each place but the first is between the two sides of exactly one fork, the lowest above it and the place before.
 ghost use Rattle.std.specs.Prelude.{◌≡◌, ◌≤◌, ◌<◌, ◌^◌};
-ghost use Rattle.base.specs.Buffer.{at_entry};
 ghost use Rattle.base.specs.Size.{max_k};
 ghost use Rattle.tree.specs.Neighbour.{lowest_fork};
 ghost use Rattle.orders.specs.Lent.{order_in, JudgedOrder};
@@ -21,7 +20,7 @@ pub fn fork_between(k: u16, p: usize, stop: u16) -> usize
 // The place between the sides of fork v in an allowed order.
 pub fn place_between(k: u16, v: usize, order: &[u16]) -> usize
     requires { JudgedOrder k order.now × (1 ≤ v) × (v < 2 ^ k) }
-    ensures { result ≡ between k (order_in k (at_entry order)) v }
+    ensures { result ≡ between k (order_in k order.now) v }
 {
     let n = stop_count(k);
     let mut p = 1;

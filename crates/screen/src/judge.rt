@@ -1,7 +1,6 @@
 // What comes before the calls write: the path with the places of what is lent, and for an exchange the records and the fork.
 ghost use Rattle.std.specs.Prelude.{◌≡◌, min};
 ghost use Rattle.base.specs.Outcome.{refuses, number, and_then};
-ghost use Rattle.base.specs.Buffer.{at_entry};
 ghost use Rattle.path.specs.Path.{read_path};
 ghost use Rattle.path.specs.Reading.{head_given, path_given};
 ghost use Rattle.times.specs.InPath.{time_in};
@@ -35,7 +34,7 @@ pub fn fewer(a: usize, b: usize) -> usize
 
 // The version and k of a path, where each buffer that is lent with it has at least so many places, or the first refusal: fewer than n are 8.
 pub fn judge_path(bytes: &[u8], highest: u16, places: usize) -> Head
-    ensures { result ≡ path_given (read_path (at_entry bytes) highest (places_room places)) }
+    ensures { result ≡ path_given (read_path bytes.now highest (places_room places)) }
 {
     let head = judge_head(bytes, highest);
     let version = head.version;
@@ -62,7 +61,7 @@ pub fn judge_exchange(
     order: &[u16],
     sums: &[u64],
 ) -> u16
-    ensures { result ≡ number (and_then (lent_records (time_in version (at_entry bytes)) k (at_entry order) (at_entry sums)) (fork_exchanged (time_in version (at_entry bytes)) k fork)) }
+    ensures { result ≡ number (and_then (lent_records (time_in version bytes.now) k order.now sums.now) (fork_exchanged (time_in version bytes.now) k fork)) }
 {
     let faulty = judge_records(bytes, version, k, order, sums);
     if faulty != 0 {

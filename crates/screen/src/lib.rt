@@ -14,7 +14,6 @@ mod update;
 
 ghost use Rattle.std.specs.Prelude.{◌≡◌};
 ghost use Rattle.base.specs.Outcome.{number};
-ghost use Rattle.base.specs.Buffer.{at_entry};
 ghost use Rattle.times.specs.InPath.{time_in};
 ghost use Rattle.screen.specs.Records.{lent_records};
 ghost use Rattle.screen.specs.Screen.{MakesSums, ExchangesFork};
@@ -34,7 +33,7 @@ pub enum RecordsMade {
 // 0, or the refusal of an order with its sums by the stops of path bytes: k above 10 (5), one of the two too short (8), a stop number n or more
 // (9), an order that is not allowed (10), a sum that is not the order's (11). A building block for callers that judge the path themselves.
 pub fn judge_records(bytes: &[u8], version: u16, k: u16, order: &[u16], sums: &[u64]) -> u16
-    ensures { result ≡ number (lent_records (time_in version (at_entry bytes)) k (at_entry order) (at_entry sums)) }
+    ensures { result ≡ number (lent_records (time_in version bytes.now) k order.now sums.now) }
 {
     let refused = judge_lent(k, order, stop_count(k) <= sums.len());
     if refused != 0 {

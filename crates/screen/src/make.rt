@@ -2,7 +2,6 @@
 // root, its sum. Each move is timed once.
 ghost use Rattle.std.specs.Prelude.{◌≡◌, ◌≤◌, ◌^◌, length};
 ghost use Rattle.base.specs.Outcome.{over};
-ghost use Rattle.base.specs.Buffer.{at_entry, at_exit};
 ghost use Rattle.times.specs.InPath.{time_in};
 ghost use Rattle.orders.specs.Lent.{order_in, JudgedOrder};
 ghost use Rattle.group_sums.specs.Travel.{sums_of};
@@ -15,7 +14,7 @@ use base::stop_count;
 // Writes the place between the sides of fork v to place v, for every fork, and 0 to place 0.
 fn write_places(k: u16, order: &[u16], sums: &mut [u64])
     requires { JudgedOrder k order.now × (2 ^ k ≤ length sums.old) }
-    ensures { Placed k (order_in k (at_entry order)) (at_entry sums) (2 ^ k) (at_exit sums) }
+    ensures { Placed k (order_in k order.now) sums.old (2 ^ k) sums.new }
 {
     let n = stop_count(k);
     sums[0] = 0;
@@ -30,7 +29,7 @@ fn write_places(k: u16, order: &[u16], sums: &mut [u64])
 // Replaces the place between the sides of each fork by the fork's sum.
 fn add_sides(bytes: &[u8], version: u16, k: u16, order: &[u16], sums: &mut [u64])
     requires { JudgedOrder k order.now × Placed k (order_in k order.now) sums.old (2 ^ k) sums.old }
-    ensures { at_exit sums ≡ over (sums_of (time_in version (at_entry bytes)) k (order_in k (at_entry order))) (at_entry sums) }
+    ensures { sums.new ≡ over (sums_of (time_in version bytes.now) k (order_in k order.now)) sums.old }
 {
     let n = stop_count(k);
     let mut v = n;
@@ -45,7 +44,7 @@ fn add_sides(bytes: &[u8], version: u16, k: u16, order: &[u16], sums: &mut [u64]
 // Makes the sums of an allowed order.
 pub fn make_sums(bytes: &[u8], version: u16, k: u16, order: &[u16], sums: &mut [u64])
     requires { JudgedOrder k order.now × (2 ^ k ≤ length sums.old) }
-    ensures { at_exit sums ≡ over (sums_of (time_in version (at_entry bytes)) k (order_in k (at_entry order))) (at_entry sums) }
+    ensures { sums.new ≡ over (sums_of (time_in version bytes.now) k (order_in k order.now)) sums.old }
 {
     write_places(k, order, sums);
     add_sides(bytes, version, k, order, sums);

@@ -1,7 +1,6 @@
 // Sums by the sides of forks: a fork's sum is those of its two sides and the move between them. Lent sums are the order's exactly if place 0
 // holds 0 and that is so of every fork, in whatever sequence the forks are looked at.
 ghost use Rattle.std.specs.Prelude.{◌≡◌, ◌+◌, ◌≤◌, ◌<◌, ◌^◌, eqb, length, get_or, take};
-ghost use Rattle.base.specs.Buffer.{at_entry};
 ghost use Rattle.times.specs.InPath.{time_in};
 ghost use Rattle.orders.specs.Lent.{order_in, JudgedOrder};
 ghost use Rattle.orders.specs.Same.{alike};
@@ -15,7 +14,7 @@ use times::time_in;
 // The time of the move into place p.
 pub fn move_into(bytes: &[u8], version: u16, p: usize, order: &[u16]) -> u64
     requires { (0 < p) × (p < length order.now) }
-    ensures { result ≡ move_into (time_in version (at_entry bytes)) (at_entry order) p }
+    ensures { result ≡ move_into (time_in version bytes.now) order.now p }
 {
     time_in(bytes, version, order[p - 1] as usize, order[p] as usize) as u64
 }
@@ -23,7 +22,7 @@ pub fn move_into(bytes: &[u8], version: u16, p: usize, order: &[u16]) -> u64
 // The sum of a side among those of n stops: a stop has none.
 fn side_sum(n: usize, sums: &[u64], w: usize) -> u64
     requires { n ≤ length sums.now }
-    ensures { result ≡ side_sum n (at_entry sums) w }
+    ensures { result ≡ side_sum n sums.now w }
 {
     if w < n {
         return sums[w];
@@ -34,7 +33,7 @@ fn side_sum(n: usize, sums: &[u64], w: usize) -> u64
 // Fork v's sum by those of its sides and the time of the move between them.
 pub fn sum_by(n: usize, sums: &[u64], v: usize, time: u64) -> u64
     requires { (n ≤ length sums.now) × (v < 1024) × (sum_by n sums.now v time < 2 ^ 64) }
-    ensures { result ≡ sum_by n (at_entry sums) v time }
+    ensures { result ≡ sum_by n sums.now v time }
 {
     side_sum(n, sums, 2 * v) + side_sum(n, sums, 2 * v + 1) + time
 }
@@ -42,7 +41,7 @@ pub fn sum_by(n: usize, sums: &[u64], v: usize, time: u64) -> u64
 // Whether fork v's sum is those of its sides and the time of the move between them.
 fn adds_up(n: usize, sums: &[u64], v: usize, time: u64) -> bool
     requires { (n ≤ length sums.now) × (v < 1024) × (v < n) }
-    ensures { result ≡ eqb (get_or (at_entry sums) v 0) (sum_by n (at_entry sums) v time) }
+    ensures { result ≡ eqb (get_or sums.now v 0) (sum_by n sums.now v time) }
 {
     let first = side_sum(n, sums, 2 * v);
     let second = side_sum(n, sums, 2 * v + 1);
@@ -59,7 +58,7 @@ fn adds_up(n: usize, sums: &[u64], v: usize, time: u64) -> bool
 // Whether the first n sums are those of an allowed order.
 pub fn sums_agree(bytes: &[u8], version: u16, k: u16, order: &[u16], sums: &[u64]) -> bool
     requires { JudgedOrder k order.now × (2 ^ k ≤ length sums.now) }
-    ensures { result ≡ alike (take (2 ^ k) (at_entry sums)) (sums_of (time_in version (at_entry bytes)) k (order_in k (at_entry order))) }
+    ensures { result ≡ alike (take (2 ^ k) sums.now) (sums_of (time_in version bytes.now) k (order_in k order.now)) }
 {
     let n = stop_count(k);
     if sums[0] != 0 {

@@ -2,7 +2,6 @@
 // above it are made anew, from their sides and one move each. No other sum is touched.
 ghost use Rattle.std.specs.Prelude.{◌≡◌, ◌+◌, ◌*◌, ◌≤◌, ◌<◌, ◌^◌, length, take};
 ghost use Rattle.base.specs.Outcome.{over};
-ghost use Rattle.base.specs.Buffer.{at_entry, at_exit};
 ghost use Rattle.times.specs.InPath.{time_in};
 ghost use Rattle.orders.specs.Lent.{order_in, JudgedOrder};
 ghost use Rattle.groups.specs.Exchange.{exchange_fork};
@@ -19,7 +18,7 @@ use tree::reach;
 // Swaps the halves, of `half` places each, of the block from place a on.
 fn swap_halves(a: usize, half: usize, order: &mut [u16])
     requires { a + 2 * half ≤ length order.old }
-    ensures { at_exit order ≡ swap_to a half (at_entry order) half }
+    ensures { order.new ≡ swap_to a half order.old half }
 {
     let mut x = 0;
     while x < half {
@@ -53,7 +52,7 @@ fn update_sums(
 )
     requires { JudgedOrder k order.now × (1 ≤ v) × (v < 2 ^ k) × (p ≡ between k (order_in k order.now) v)
         × Updated (time_in version bytes.now) k (order_in k order.now) sums.old v sums.old }
-    ensures { at_exit sums ≡ over (sums_of (time_in version (at_entry bytes)) k (order_in k (at_entry order))) (at_entry sums) }
+    ensures { sums.new ≡ over (sums_of (time_in version bytes.now) k (order_in k order.now)) sums.old }
 {
     let n = stop_count(k);
     let mut u = v;
@@ -70,8 +69,8 @@ fn update_sums(
 pub fn exchange(bytes: &[u8], version: u16, k: u16, v: usize, order: &mut [u16], sums: &mut [u64])
     requires { JudgedOrder k order.old × (1 ≤ v) × (v < 2 ^ k) × (2 ^ k ≤ length sums.old)
         × (take (2 ^ k) sums.old ≡ sums_of (time_in version bytes.now) k (order_in k order.old)) }
-    ensures { (at_exit order ≡ over (exchange_fork k (order_in k (at_entry order)) v) (at_entry order))
-        × (at_exit sums ≡ over (sums_of (time_in version (at_entry bytes)) k (exchange_fork k (order_in k (at_entry order)) v)) (at_entry sums)) }
+    ensures { (order.new ≡ over (exchange_fork k (order_in k order.old) v) order.old)
+        × (sums.new ≡ over (sums_of (time_in version bytes.now) k (exchange_fork k (order_in k order.old) v)) sums.old) }
 {
     let p = place_between(k, v, order);
     let half = reach(p);

@@ -4,7 +4,7 @@ use Rattle.std.specs.Prelude.{◌≡◌, Bool, true, ◌&&◌, List, [], ◌∷�
 use Rattle.std.specs.Borrow.{Bor}
 use Rattle.base.specs.Refusal.{out_of_range, wrong_size}
 use Rattle.base.specs.Outcome.{Outcome, gives, need, over}
-use Rattle.base.specs.Buffer.{Unsigned, Signed, at_entry, at_exit}
+use Rattle.base.specs.Buffer.{Unsigned, Signed, SharedUnsigned, SharedSigned, at_entry, at_exit, contents}
 use Rattle.base.specs.Lists.{tabulate}
 use Rattle.stop.specs.declared.Stop.{Stop}
 use Rattle.stop.specs.Stop.{in_range, coordinate}
@@ -19,9 +19,13 @@ pub record LentStops : Type 0 where
 abbrev pub buffers : List ℤ → List ℕ → List ℕ → List ℕ → LentStops
 buffers coords speeds blends dwells = record { coords = coords; speeds = speeds; blends = blends; dwells = dwells }
 
--- what they hold when a call begins, of the parameters as an `ensures` has them
-abbrev pub lent_stops : Signed → Unsigned → Unsigned → Unsigned → LentStops
-lent_stops coords speeds blends dwells = buffers (at_entry coords) (at_entry speeds) (at_entry blends) (at_entry dwells)
+-- what they hold, of parameters that are only read, as an `ensures` has them
+abbrev pub lent_stops : SharedSigned → SharedUnsigned → SharedUnsigned → SharedUnsigned → LentStops
+lent_stops coords speeds blends dwells = buffers (contents coords) (contents speeds) (contents blends) (contents dwells)
+
+-- and of buffers that the call may write: when it begins
+abbrev pub stops_before : Signed → Unsigned → Unsigned → Unsigned → LentStops
+stops_before coords speeds blends dwells = buffers (at_entry coords) (at_entry speeds) (at_entry blends) (at_entry dwells)
 
 -- and when it returns
 abbrev pub left_stops : Signed → Unsigned → Unsigned → Unsigned → LentStops

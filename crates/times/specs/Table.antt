@@ -2,7 +2,7 @@
 use Rattle.std.specs.Prelude.{◌≡◌, List, ℕ, ◌*◌, ◌^◌, leb, eqb, length, get_or}
 use Rattle.base.specs.Refusal.{wrong_k, wrong_size}
 use Rattle.base.specs.Outcome.{Outcome, gives, refuses, need, and_then, giving, done, after}
-use Rattle.base.specs.Buffer.{Unsigned, Signed, at_entry, at_exit}
+use Rattle.base.specs.Buffer.{Unsigned, SharedUnsigned, SharedSigned, at_entry, at_exit, contents}
 use Rattle.base.specs.Size.{max_k}
 use Rattle.base.specs.Lists.{tabulate}
 use Rattle.stop.specs.declared.Stop.{Stop}
@@ -49,10 +49,10 @@ pub record TableIsMade (o : Outcome (List ℕ)) (before afterwards : List ℕ) (
   pub left : afterwards ≡ after o (λ table. table) before
 
 -- the same of the parameters of each call
-abbrev pub MakesTable : ℕ → Signed → Unsigned → Unsigned → Unsigned → Unsigned → TableMade → Type 0
+abbrev pub MakesTable : ℕ → SharedSigned → SharedUnsigned → SharedUnsigned → SharedUnsigned → Unsigned → TableMade → Type 0
 MakesTable k coords speeds blends dwells table r =
     TableIsMade (make_table k (lent_stops coords speeds blends dwells) (length (at_entry table))) (at_entry table) (at_exit table) r
 
-abbrev pub FillsTable : Unsigned → ℕ → ℕ → Unsigned → TableMade → Type 0
+abbrev pub FillsTable : SharedUnsigned → ℕ → ℕ → Unsigned → TableMade → Type 0
 FillsTable bytes version k table r =
-    TableIsMade (table_from (at_entry bytes) version k (length (at_entry table))) (at_entry table) (at_exit table) r
+    TableIsMade (table_from (contents bytes) version k (length (at_entry table))) (at_entry table) (at_exit table) r

@@ -1,7 +1,6 @@
 // Four rows of the table together: the entries of one column, for which the stop that they lead to is taken once, and those on the diagonal.
 
 ghost use Rattle.std.specs.Prelude.{◌≡◌, true, ◌+◌, ◌*◌, ◌<◌, ◌≤◌, length};
-ghost use Rattle.base.specs.Buffer.{at_entry, at_exit};
 ghost use Rattle.stop.specs.Stop.{in_range};
 ghost use Rattle.times.specs.Columns.{FourInRange, set_each, in_column, on_diagonal, times_from};
 
@@ -28,7 +27,7 @@ pub fn write_column(
 )
     requires four_in_range { FourInRange four × (in_range stop ≡ true) }
     requires to_in_bounds { start + 3 * n + to < length table.old }
-    ensures { at_exit table ≡ set_each (at_entry table) (in_column start n to) (times_from four stop) 4 }
+    ensures { table.new ≡ set_each table.old (in_column start n to) (times_from four stop) 4 }
 {
     let at = start + to;
     table[at] = travel::time(four.a, stop);
@@ -40,7 +39,7 @@ pub fn write_column(
 // Writes 0 for the time of each of the stops `from` to `from` + 3 to itself, in the four rows of n from `start` on.
 pub fn write_diagonal(start: usize, n: usize, from: usize, table: &mut [u32])
     requires { start + 3 * n + from + 3 < length table.old }
-    ensures { at_exit table ≡ set_each (at_entry table) (on_diagonal start n from) (λ i. 0) 4 }
+    ensures { table.new ≡ set_each table.old (on_diagonal start n from) (λ i. 0) 4 }
 {
     let at = start + from;
     table[at] = 0;

@@ -14,7 +14,6 @@ ghost use Rattle.std.specs.Prelude.{◌≡◌};
 ghost use Rattle.base.specs.Outcome.{number};
 ghost use Rattle.stop.specs.Lent.{lent_stops};
 ghost use Rattle.times.specs.Time.{move_time, said};
-ghost use Rattle.base.specs.Buffer.{at_entry};
 ghost use Rattle.times.specs.InPath.{time_of, time_in};
 ghost use Rattle.times.specs.Summing.{sum_in, said as said_sum};
 ghost use Rattle.times.specs.Table.{table_room, make_table, table_from, MakesTable, FillsTable};
@@ -135,7 +134,7 @@ fn time_of(i: usize, from: Stop, j: usize, to: Stop) -> u32
 // The time from stop `from` to stop `to` of path bytes in milliseconds. Of bytes that were not judged it is 0 where one of the two stops is
 // not there or out of range.
 pub fn time_in(bytes: &[u8], version: u16, from: usize, to: usize) -> u32
-    ensures { result ≡ time_in version (at_entry bytes) from to }
+    ensures { result ≡ time_in version bytes.now from to }
 {
     time_of(
         from,
@@ -155,7 +154,7 @@ pub enum MovesSummed {
 // The sum of the moves between the first n numbers of an order, or all where there are fewer, by the stops of path bytes, whose head gave `version` and
 // `k`. The stops and the end are judged first. A number that is no stop's takes no time.
 pub fn sum_in(bytes: &[u8], version: u16, k: u16, order: &[u16]) -> MovesSummed
-    ensures { said_sum result ≡ sum_in (at_entry bytes) version k (at_entry order) }
+    ensures { said_sum result ≡ sum_in bytes.now version k order.now }
 {
     let refused = judge_body(bytes, version, k);
     if refused != 0 {
@@ -166,7 +165,7 @@ pub fn sum_in(bytes: &[u8], version: u16, k: u16, order: &[u16]) -> MovesSummed
 
 // 0, or the number of the refusal for a table of `size` places of the stops of path bytes.
 fn judge_path(bytes: &[u8], version: u16, k: u16, size: usize) -> u16
-    ensures { result ≡ number (table_from (at_entry bytes) version k size) }
+    ensures { result ≡ number (table_from bytes.now version k size) }
 {
     let refused = judge_size(k, size);
     if refused != 0 {

@@ -1,7 +1,6 @@
 // The moves of an order by the stops of judged path bytes, summed place by place: each stop is read once, and none is judged again.
 
 ghost use Rattle.std.specs.Prelude.{◌≡◌, true, ℕ, ◌≤◌, ◌^◌, min, length, take};
-ghost use Rattle.base.specs.Buffer.{at_entry};
 ghost use Rattle.path.specs.Path.{stop_in};
 ghost use Rattle.tree.specs.Total.{total};
 ghost use Rattle.times.specs.InPath.{time_of, time_in};
@@ -39,7 +38,7 @@ fn time_judged(n: usize, i: usize, from: Stop, j: usize, to: Stop) -> u32
 // The moves so far, and one more.
 fn move_on(bytes: &[u8], version: u16, n: usize, passed: Passed, to: u16) -> Passed
     requires { ((i : ℕ) → StopOf n i (stop_in version i bytes.now)) × StopOf n passed.number passed.stop × (passed.sum ≤ 2 ^ 63) }
-    ensures { result ≡ moved_on version (at_entry bytes) passed to }
+    ensures { result ≡ moved_on version bytes.now passed to }
 {
     let from = passed.stop;
     let stop = stop_from(bytes, version, to as usize);
@@ -54,7 +53,7 @@ fn move_on(bytes: &[u8], version: u16, n: usize, passed: Passed, to: u16) -> Pas
 // The sum of the moves between the first `count` numbers of an order, at least one.
 fn sum_first(bytes: &[u8], version: u16, n: usize, count: usize, order: &[u16]) -> u64
     requires { ((i : ℕ) → StopOf n i (stop_in version i bytes.now)) × (1 ≤ count) × (count ≤ length order.now) × (count ≤ 1024) }
-    ensures { result ≡ total (time_in version (at_entry bytes)) (take count (at_entry order)) }
+    ensures { result ≡ total (time_in version bytes.now) (take count order.now) }
 {
     let first = order[0];
     let mut passed = Passed {
@@ -73,7 +72,7 @@ fn sum_first(bytes: &[u8], version: u16, n: usize, count: usize, order: &[u16]) 
 // The sum of the moves between the first n numbers of an order, or all where there are fewer.
 pub fn sum_moves(bytes: &[u8], version: u16, n: usize, order: &[u16]) -> u64
     requires { ((i : ℕ) → StopOf n i (stop_in version i bytes.now)) × (1 ≤ n) × (n ≤ 1024) }
-    ensures { result ≡ total (time_in version (at_entry bytes)) (take n (at_entry order)) }
+    ensures { result ≡ total (time_in version bytes.now) (take n order.now) }
 {
     if order.len() == 0 {
         return 0;

@@ -1,0 +1,6 @@
+-- `path::put::put_record` meets its contract: the record's start, the point and the pace side by side fill the part.
+use Rattle.path.proofs.WrittenLaws.{stop-put}
+use Rattle.path.proofs.put.put_record.Goals as goal
+
+pub returns : goal.returns
+returns c = stop-put _ _ _ _ _ _ c.requires c.put_start.ensures c.put_point.ensures c.put_pace.ensures
