@@ -49,7 +49,7 @@ module _ (k : ℕ) (cost : List ℕ → ℕ) (ok : ℕ → Bool) where
     better-sound : (x : Found (List ℕ)) → Sound x → Sound (better cost (order_of k F) x)
     unfolding better
     better-sound none s = (F, counts, refl, refl)
-    better-sound (at c o) s = go (preferred cost (order_of k F) o)
+    better-sound (at c o) s = go _
       where
         go : (b : Bool) → Sound (cond b (at (cost (order_of k F)) (order_of k F)) (at c o))
         go true = (F, counts, refl, refl)
@@ -104,7 +104,7 @@ module _ (k : ℕ) (cost : List ℕ → ℕ) (ok : ℕ → Bool) where
   -- WHAT IS FOUND IS SOUND
   pub found-sound : Sound (found k cost ok)
   unfolding found
-  found-sound = best_of-sound (2 ^ (2 ^ k - 1))
+  found-sound = best_of-sound _
 
   -- AND OVER THE ORDER OF EVERY COUNTED SET
   pub found-over : Settled k ok → (F : ℕ) → ok F ≡ true → Over (found k cost ok) (order_of k F)
