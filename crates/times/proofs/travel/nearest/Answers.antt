@@ -1,0 +1,29 @@
+-- `times::travel::nearest` meets its contract: the rest is below q, and one comparison tells.
+use Prim.Native.Nat.{◌/◌, ◌%◌, ◌≤◌, ◌<◌}
+use native.Mathlib.Nat.{mod-lt, div-le_self}
+use native.Mathlib.Omega.{arith}
+use Rattle.times.proofs.Nearest.{nearest-up, nearest-down}
+use Rattle.times.proofs.travel.nearest.Goals as goal
+use Rattle.times.proofs.travel.nearest.Goals.{Start}
+
+-- the rest, and the whole part
+rest : (c : Start) → c.args.p % c.args.q < c.args.q
+rest c = mod-lt _ c.requires.1
+
+whole : (c : Start) → c.args.p / c.args.q ≤ c.args.p
+whole c = div-le_self _ _
+
+pub overflow_mul-rest : goal.overflow_mul-rest
+overflow_mul-rest c = record { fits = omega (arith, rest c) }
+
+pub overflow_add-rest : goal.overflow_add-rest
+overflow_add-rest c = record { fits = omega (arith, rest c) }
+
+pub overflow_add-result : goal.overflow_add-result
+overflow_add-result c = record { fits = omega (arith, whole c.before) }
+
+pub returns-then-q-rest : goal.returns-then-q-rest
+returns-then-q-rest c = nearest-up _ _ c.requires.1 c.if-q-rest.true
+
+pub returns-else-q-rest : goal.returns-else-q-rest
+returns-else-q-rest c = nearest-down _ _ c.requires.1 c.if-q-rest.false
