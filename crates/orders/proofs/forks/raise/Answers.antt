@@ -7,17 +7,10 @@ use lib.Bits.{bit_or}
 use lib.ListN.{get_or, set}
 use lib.Pow.{shl_exact}
 use Rattle.orders.specs.Bits.{raised}
-use borrow.Author.Rules.{rules}
-use Rattle.orders.proofs.forks.raise.Statement.{statement}
-use Rattle.orders.proofs.forks.raise.Tie as tie
+use Rattle.orders.proofs.forks.raise.Goals as goal
 
-returns : tie.Need-returns
+pub returns : goal.returns
 unfolding raised
 returns c =
-    let s = c.before.args.bits.now in
-    let v : ℕ = c.before.args.v in
+    let s = c.args.bits.now in let v : ℕ = c.args.v in
     ap (λ (x : ℕ). set s (v / 8) (bit_or (get_or s (v / 8) 0) x)) (shl_exact 1 (v % 8) 8 (omega arith) (omega arith) ∙ one-mul (2 ^ (v % 8)))
-
-pub raise_spec : {M : Type 1} → statement M
-raise_spec =
-    tie.close (tie.spec (λ c. search rules) (λ c. search rules) (λ c. search rules) (λ c. search rules) (λ c. search rules) returns)

@@ -1,0 +1,11 @@
+use Prim.Native.Nat.{◌^◌}
+use lib.ListN.{take}
+use Rattle.orders.specs.Bits.{byte_count, set_of_bits}
+use Rattle.orders.proofs.Way.{Way}
+use Rattle.orders.proofs.places.stop_in.Given as goal
+
+abbrev pub invariant-loop-d : goal.invariant-loop-d
+invariant-loop-d l = Way l.k (set_of_bits (take (byte_count (2 ^ l.k)) l.bits)) l.p l.d l.v
+
+abbrev pub decreases-loop-d : goal.decreases-loop-d
+decreases-loop-d l = l.d
