@@ -22,7 +22,7 @@ use Rattle.orders.proofs.Shift.{lowest-shift}
 use Rattle.groups.specs.Exchange.{exchange_fork}
 use Rattle.groups.specs.Group.{height, half_size}
 use Rattle.groups.proofs.Height.{AtDepth, height-at, fork-depth}
-use Rattle.groups.proofs.Start.{first, first_fits, group_start-first, node-up}
+use Rattle.groups.proofs.Start.{first_fits, group_start-first, node-up}
 use Rattle.groups.proofs.Swap.{place-flip}
 use Rattle.group_sums.specs.Between.{between}
 

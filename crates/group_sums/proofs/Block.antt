@@ -56,7 +56,7 @@ module _ (t : ℕ → ℕ → ℕ) (k F : ℕ) where
   -- and over the way down from the fork
   pub block_sum-inner : (v h m : ℕ) → AtDepth k v h m → block_sum t k (order_of k F) v ≡ inner t k (bit F) v m
   unfolding inner
-  block_sum-inner v h m d = block_sum-block v h m d ∙ sum_from-same _ _ (first F v h m) 0 (2 ^ m - 1) each
+  block_sum-inner v h m d = block_sum-block v h m d ∙ sum_from-same (λ x. t (in_place (order_of k F) x) (in_place (order_of k F) (suc x))) (λ x. t (sub (bit F) v m x - 2 ^ k) (sub (bit F) v m (suc x) - 2 ^ k)) (first F v h m) 0 (2 ^ m - 1) each
     where
       stop_in_place : (x : ℕ) → x < 2 ^ m → in_place (order_of k F) (first F v h m + x) ≡ sub (bit F) v m x - 2 ^ k
       stop_in_place x l = omega (arith, in_block k F v h m d x l)
@@ -119,8 +119,11 @@ pub block_sum-away : (t : ℕ → ℕ → ℕ) (k F v u h m : ℕ) → AtDepth k
     → block_sum t k (order_of k (bit_xor F (2 ^ v))) u ≡ block_sum t k (order_of k F) u
 unfolding inner
 block_sum-away t k F v u h m d away =
-    block_sum-inner t k (bit_xor F (2 ^ v)) u h m d ∙ sum_from-same _ _ 0 0 (2 ^ m - 1) each ∙ sym (block_sum-inner t k F u h m d)
+    block_sum-inner t k (bit_xor F (2 ^ v)) u h m d ∙ sum_from-same (moved (bit_xor F (2 ^ v))) (moved F) 0 0 (2 ^ m - 1) each ∙ sym (block_sum-inner t k F u h m d)
   where
+    moved : ℕ → ℕ → ℕ
+    moved G x = t (sub (bit G) u m x - 2 ^ k) (sub (bit G) u m (suc x) - 2 ^ k)
+
     at : (x : ℕ) → sub (bit (bit_xor F (2 ^ v))) u m x - 2 ^ k ≡ sub (bit F) u m x - 2 ^ k
     at x = ap (λ z. z - 2 ^ k) (sub-flip F v u m (λ j _. away j) x)
 

@@ -120,7 +120,7 @@ sums_same t u k o allowed same = tabulate-cong (2 ^ k) (sum_at t k o) (sum_at u 
 
     each : (v : ℕ) → v < 2 ^ k → sum_at t k o v ≡ sum_at u k o v
     each zero l = refl
-    each (suc v) l = sum_from-same _ _ 0 0 (2 ^ k - 1)
+    each (suc v) l = sum_from-same (move_within t k o (suc v)) (move_within u k o (suc v)) 0 0 (2 ^ k - 1)
         (λ j b. let q : 0 + j < 2 ^ k = omega arith in
         let r : suc (0 + j) < 2 ^ k = omega arith in
         ap (λ x. cond (in_group k (suc v) (in_place o (0 + j)) && in_group k (suc v) (in_place o (suc (0 + j)))) x 0) (same _ _ (stop (0 + j) q) (stop (suc (0 + j)) r)))
