@@ -4,17 +4,16 @@ use Prim.Native.Nat.{ℕ, ◌^◌}
 use native.Mathlib.Omega.{arith}
 use lib.Dec.{eqb}
 use lib.ListN.{length, take}
-use Rattle.base.specs.Outcome.{giving}
 use Rattle.base.proofs.Numbered.{Numbered, given, need-numbered, then-numbered, giving-numbered}
 use Rattle.records.specs.Field.{number_of}
-use Rattle.records.specs.Record.{Taken, take_record, record_length, order_kind, stops_kind, forks_kind, end_kind}
+use Rattle.records.specs.Record.{take_record, record_length, order_kind, stops_kind, forks_kind, end_kind}
 use Rattle.records.proofs.Numbers.{record-numbered}
 use Rattle.tree.specs.Total.{total}
 use Rattle.orders.specs.Same.{alike}
 use Rattle.orders.specs.Allowed.{forks_of, judge_order}
 use Rattle.orders.specs.Bits.{bit_string}
 use Rattle.orders.proofs.Numbers.{order-numbered}
-use Rattle.order_file.specs.Reading.{Contents, any_version, read_records, judge_string, unsummed, judge_file}
+use Rattle.order_file.specs.Reading.{any_version, read_records, judge_string, unsummed, judge_file}
 
 records-numbered : (k : ℕ) (file : List ℕ) → Numbered (read_records k file)
 unfolding read_records

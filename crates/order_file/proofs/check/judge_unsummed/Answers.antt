@@ -13,20 +13,7 @@ use Rattle.order_file.specs.Reading.{judge_string}
 use Rattle.order_file.proofs.Bytes.{length-stops_in}
 use Rattle.order_file.proofs.Calls.{unsummed-records, unsummed-string}
 use Rattle.order_file.proofs.Stages as stage
-use borrow.Author.Rules.{rules}
-use Rattle.order_file.proofs.check.judge_unsummed.Statement.{statement}
-use Rattle.order_file.proofs.check.judge_unsummed.Tie as tie
-
--- the records are whole
-abbrev start : tie.Else1 → tie.Start
-start c = c.before.before.before.before
-
-records : (c : tie.Else1) → stage.Whole (start c).args.k (start c).args.file.now
-records c = stage.whole _ _ (sym c.before.judge-records.ensures ∙ c.if1.false)
-
--- the stops stand at the front
-abbrev stored : tie.After-string-in → tie.After-store-stops
-stored c = c.before.before.before.before
+use Rattle.order_file.proofs.check.judge_unsummed.Goals as goal
 
 -- the file's string is all there
 there : (k : ℕ) (file part : List ℕ) → part ≡ drop (4 + forks_place (2 ^ k)) file → stage.Whole k file → byte_count (2 ^ k) ≤ length part
@@ -39,22 +26,19 @@ judged k file stops before part e f =
     ap₂ (λ (x y : List ℕ). number (judge_string k (order_in k x) (take (byte_count (2 ^ k)) y))) e f
     ∙ ap (λ (x : List ℕ). number (judge_string k x (stage.string k file))) (over-front (2 ^ k) (stage.stops k file) before (length-stops_in (2 ^ k) (drop stops_place file)))
 
-pub judge_unsummed_spec : {M : Type 1} → statement M
-judge_unsummed_spec =
-    tie.close
-    (tie.spec
-    (λ c κs. search rules)
-    (λ c. record { number = unsummed-records _ _ _ c.before.judge-records.ensures c.if1.true; stored = λ z. absurd (c.if1.true z) })
-    (λ c κs. search rules)
-    (λ c κs. search rules)
-    (λ c κs.
-    let e = (stored c).before.before in
-    ((start e).pre.0, omega (arith, (stored c).store-stops.auto.1.1.0, (start e).pre.1), there _ _ _ c.string-in.ensures (records e)))
-    (λ c. search rules)
-    (λ c.
-    let t = stored c.before in
-    let e = t.before.before in
+pub returns-then-refused-ne0 : goal.returns-then-refused-ne0
+returns-then-refused-ne0 c =
+    record { number = unsummed-records _ _ _ c.judge_records-refused.ensures c.if-refused-ne0.true; stored = λ z. absurd (c.if-refused-ne0.true z) }
+
+pub judge_string-requires : goal.judge_string-requires
+judge_string-requires c =
+    let records : stage.Whole c.args.k c.args.file.now = stage.whole _ _ (sym c.judge_records-refused.ensures ∙ c.if-refused-ne0.false) in
+    (c.requires.0, omega (arith, c.store_stops.auto.order, c.requires.1), there _ _ _ c.string_in.ensures records)
+
+pub returns : goal.returns
+returns c =
+    let records : stage.Whole c.args.k c.args.file.now = stage.whole _ _ (sym c.judge_records-refused.ensures ∙ c.if-refused-ne0.false) in
     record {
-      number = c.judge-string.ensures ∙ judged _ (start e).args.file.now _ _ _ t.store-stops.ensures c.before.string-in.ensures ∙ sym (unsummed-string _ _ (records e));
-      stored = λ z. t.store-stops.ensures;
-    }))
+      number = c.judge_string.ensures ∙ judged _ c.args.file.now _ _ _ c.store_stops.ensures c.string_in.ensures ∙ sym (unsummed-string _ _ records);
+      stored = λ z. c.store_stops.ensures;
+    }

@@ -20,16 +20,7 @@ use Rattle.order_file.specs.File.{order_file, file_for, file_size}
 use Rattle.order_file.proofs.Bytes.{length-file_for}
 use Rattle.order_file.proofs.Sizes.{true-sizes}
 use Rattle.order_file.proofs.Calls.{Writes, write-judged, write-refused, write-made}
-use borrow.Author.Rules.{rules}
-use Rattle.order_file.proofs.write_order_file.Statement.{statement}
-use Rattle.order_file.proofs.write_order_file.Tie as tie
-
--- nothing was refused
-abbrev start : tie.After-judge-write → tie.Start
-start c = c.before.before.before.before.before
-
-judged : (c : tie.Else1) → let a = (start c.before.before).args in Writes a.k a.order.now a.table.now (length a.out.now)
-judged c = write-judged _ _ _ _ (sym c.before.before.judge-write.ensures.number ∙ c.if1.false)
+use Rattle.order_file.proofs.write_order_file.Goals as goal
 
 -- the bytes that were put are the file
 written : (k sum : ℕ) (order table bits room out u : List ℕ) → JudgedOrder k order → file_size (2 ^ k) ≤ length out
@@ -45,27 +36,19 @@ written k sum order table bits room out u j fits e f g =
     let long : length file ≡ file_size (2 ^ k) = length-file_for k (entry (2 ^ k) table) o (length-take-le (2 ^ k) order j.long) in
     g ∙ ap₂ (λ (x : ℕ) (y : List ℕ). put out 0 (order_file k x o y)) t s ∙ put_front out file (omega arith)
 
-pub write_order_file_spec : {M : Type 1} → statement M
-write_order_file_spec =
-    tie.close
-    (tie.spec
-    (λ c. search rules)
-    (λ c κs. search rules)
-    (λ c. write-refused _ _ _ _ _ c.before.before.judge-write.ensures.number c.if1.true)
-    (λ c κs. search rules)
-    (λ c. search rules)
-    (λ c κs.
-    let e = c.before.before.before in
-    let w = judged e in
-    (w.judged.small, w.judged.long, omega (arith, (true-sizes _ w.judged.small).few, e.before.before.judge-write.auto.1.1.1.1.0), w.long))
-    (λ c κs. search rules)
-    (λ c. search rules)
-    (λ c.
-    let p = c.before.before.before in
-    let m = p.before.before.before in
-    let e = m.before in
-    let w = judged e in
-    let a = (start e.before.before).args in
-    write-made _ _ a.table.now _ _ _ w
-    (c.file-size.ensures ∙ ap file_size (stop_count-pow _ w.judged.small) ∙ sym (length-file_for _ _ _ (length-take-le _ a.order.now w.judged.long)))
-    (written _ _ _ a.table.now _ _ _ _ w.judged w.long m.sum-moves.ensures (e.before.before.judge-write.ensures.string e.if1.false) p.put-file.ensures)))
+pub returns-then-refused-ne0 : goal.returns-then-refused-ne0
+returns-then-refused-ne0 c = write-refused _ _ _ _ _ c.judge_write-refused.ensures.number c.if-refused-ne0.true
+
+pub put_file-requires : goal.put_file-requires
+put_file-requires c =
+    let judged : let a = c.args in Writes a.k a.order.now a.table.now (length a.out.now) = write-judged _ _ _ _ (sym c.judge_write-refused.ensures.number ∙ c.if-refused-ne0.false) in
+    let w = judged in
+    (w.judged.small, w.judged.long, omega (arith, (true-sizes _ w.judged.small).few, c.judge_write-refused.auto.bits), w.long)
+
+pub returns : goal.returns
+returns c =
+    let judged : let a = c.args in Writes a.k a.order.now a.table.now (length a.out.now) = write-judged _ _ _ _ (sym c.judge_write-refused.ensures.number ∙ c.if-refused-ne0.false) in
+    let w = judged in
+    let a = c.args in write-made _ _ a.table.now _ _ _ w
+    (c.file_size.ensures ∙ ap file_size (stop_count-pow _ w.judged.small) ∙ sym (length-file_for _ _ _ (length-take-le _ a.order.now w.judged.long)))
+    (written _ _ _ a.table.now _ _ _ _ w.judged w.long c.sum_moves.ensures (c.judge_write-refused.ensures.string c.if-refused-ne0.false) c.put_file.ensures)

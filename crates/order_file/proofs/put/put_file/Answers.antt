@@ -12,15 +12,7 @@ use Rattle.orders.specs.Bits.{byte_count}
 use Rattle.orders.specs.Lent.{order_in}
 use Rattle.order_file.specs.File.{head_bytes, stops_bytes, forks_bytes, end_bytes, order_file, stops_record, forks_place, end_place, file_size}
 use Rattle.order_file.proofs.Bytes.{length-head, length-stops, length-forks, length-end}
-use borrow.Author.Rules.{rules}
-use Rattle.order_file.proofs.put.put_file.Statement.{statement}
-use Rattle.order_file.proofs.put.put_file.Tie as tie
-
-abbrev start : tie.After-stop-count → tie.Start
-start c = c.before.before.before.before.before.before.before.before
-
-count : (c : tie.After-stop-count) → c.stop-count.result ≡ 2 ^ (start c).args.k
-count c = c.stop-count.ensures ∙ stop_count-pow _ (start c).requires.0
+use Rattle.order_file.proofs.put.put_file.Goals as goal
 
 -- the four records make the file
 written : (k n sum : ℕ) (order string out t u v w : List ℕ) → n ≡ 2 ^ k → 2 ^ k ≤ length order → length string ≡ byte_count (2 ^ k) → file_size (2 ^ k) ≤ length out
@@ -40,28 +32,22 @@ written k n sum order string out t u v w e long bytes room a b c d =
     put_two out 0 (h ++ s ++ f) end_bytes v w (end_place (2 ^ k)) (omega (arith, length-end)) (omega arith) three d
     ∙ ap (λ (x : ℕ). put out 0 (h ++ stops_bytes sum (take x order) ++ f ++ end_bytes)) e
 
-pub put_file_spec : {M : Type 1} → statement M
-put_file_spec =
-    tie.close
-    (tie.spec
-    (λ c κs. omega (arith, c.before.before.before.before.requires.3))
-    (λ c κs. search rules)
-    (λ c κs.
-    let b = c.before in
-    let s = start b in
-    (omega (arith, count b, pow-le-1024 s.args.k s.pre.0), omega (arith, count b, s.pre.1), omega (arith, count b, s.pre.3, b.before.before.before.put-head.auto.1.0)))
-    (λ c κs.
-    let o = c.before.before.before in
-    let b = o.before.before in
-    let s = start b in
-    (s.pre.0, s.pre.2, omega (arith, s.pre.3, o.put-stops.auto.1.1.1.0, b.before.before.before.put-head.auto.1.0)))
-    (λ c κs. (start c.before.before.before.before.before.before.before.before.before).requires.0)
-    (λ c. search rules)
-    (λ c.
-    let e = c.before.before in
-    let f = e.before.before.before.before in
-    let o = f.before.before.before.before in
-    let b = o.before.before in
-    let s = start b in
-    written _ _ _ s.args.order.now _ s.args.out.now _ _ _ _ (count b) s.pre.1 (length-take-le _ s.args.bits.now s.pre.2) s.pre.3
-    b.before.before.before.put-head.ensures o.put-stops.ensures f.put-forks.ensures e.put-end.ensures))
+pub put_head-requires : goal.put_head-requires
+put_head-requires c = omega (arith, c.requires.3)
+
+pub put_stops-requires : goal.put_stops-requires
+put_stops-requires c =
+    let count : c.stop_count.result ≡ 2 ^ c.args.k = c.stop_count.ensures ∙ stop_count-pow _ c.requires.0 in
+    (omega (arith, count, pow-le-1024 c.args.k c.requires.0), omega (arith, count, c.requires.1), omega (arith, count, c.requires.3, c.put_head.auto.out))
+
+pub put_forks-requires : goal.put_forks-requires
+put_forks-requires c = (c.requires.0, c.requires.2, omega (arith, c.requires.3, c.put_stops.auto.out, c.put_head.auto.out))
+
+pub put_end-requires : goal.put_end-requires
+put_end-requires c = c.requires.0
+
+pub returns : goal.returns
+returns c =
+    let count : c.stop_count.result ≡ 2 ^ c.args.k = c.stop_count.ensures ∙ stop_count-pow _ c.requires.0 in
+    written _ _ _ c.args.order.now _ c.args.out.now _ _ _ _ count c.requires.1 (length-take-le _ c.args.bits.now c.requires.2) c.requires.3
+    c.put_head.ensures c.put_stops.ensures c.put_forks.ensures c.put_end.ensures
