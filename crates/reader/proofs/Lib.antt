@@ -2,4 +2,3 @@
 pub mod DrawsLaws
 pub mod ReaderLaws
 pub mod StepLaws
-mod Values

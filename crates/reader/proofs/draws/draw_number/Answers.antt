@@ -4,16 +4,13 @@ use mathlib.Core.List.{List}
 use Prim.Native.Nat.{ℕ, ◌+◌, ◌-◌, ◌≤◌}
 use native.Mathlib.Numerals.{add-one}
 use native.Mathlib.Omega.{arith}
-use borrow.Author.Rules.{rules}
 use Rattle.path.specs.Draw.{draw_at}
 use Rattle.reader.specs.declared.Step.{Step}
 use Rattle.reader.specs.Draws.{draw_answer, step_at, steps_from}
 use Rattle.reader.proofs.DrawsLaws.{draws-are, draws-repeat, steps-zero, steps-suc}
-use Rattle.reader.proofs.draws.draw_number.Statement.{statement}
-use Rattle.reader.proofs.draws.draw_number.Tie as tie
+use Rattle.reader.proofs.draws.draw_number.Goals as goal
 
 -- ---- a step s that is draw i
-
 module _ (bytes : List ℕ) (highest i : ℕ) (s : Step) (here : s ≡ steps_from bytes 0 highest i) where
   -- where it is no stop, every later draw has its answer
   stays : (d : ℕ) → i ≤ d → (s.drawn.verdict ≡ 0 → ⊥) → s.drawn ≡ draw_answer (draw_at bytes highest d)
@@ -30,28 +27,14 @@ module _ (bytes : List ℕ) (highest i : ℕ) (s : Step) (here : s ≡ steps_fro
   more : (t : Step) → t ≡ step_at bytes s.at s.version → t ≡ steps_from bytes 0 highest (i + 1)
   more t e = rw (add-one i) (e ∙ ap (λ (s : Step). step_at bytes s.at s.version) here ∙ sym (steps-suc bytes 0 highest i))
 
--- ---- the loop
+pub loop-i-init : goal.loop-i-init
+loop-i-init c = (omega arith, c.draw_at-step.ensures ∙ sym (steps-zero c.args.bytes.now 0 c.args.highest))
 
-abbrev invariant-loop : tie.invariant-loop
-invariant-loop bytes highest d step₀ -i₀ step -i = (-i ≤ d) × (step ≡ steps_from bytes 0 highest -i)
+pub returns-then-drawn-ne-A_STOP : goal.returns-then-drawn-ne-A_STOP
+returns-then-drawn-ne-A_STOP c = stays _ _ _ _ c.loop-i.invariant.1 _ c.loop-i.invariant.0 c.if-drawn-ne-A_STOP.true
 
-abbrev decreases-loop : tie.decreases-loop
-decreases-loop bytes highest d step₀ -i₀ step -i = d - -i
+pub loop-i-preserved : goal.loop-i-preserved
+loop-i-preserved c = (omega arith, more _ _ _ _ c.loop-i.invariant.1 _ c.draw_at-step-in-loop-i.ensures)
 
-loop-again : tie.Need-loop-preserved invariant-loop decreases-loop
-loop-again c = (omega arith, more _ _ _ _ c.before.before.before.before.before.loop.invariant.1 _ c.draw-at2.ensures)
-
-pub draw_number_spec : {M : Type 1} → statement M
-draw_number_spec =
-    tie.close
-    (tie.spec
-    invariant-loop
-    decreases-loop
-    (λ c κs. search rules)
-    (λ c. (omega arith, c.draw-at.ensures ∙ sym (steps-zero c.before.before.args.bytes.now 0 c.before.before.args.highest)))
-    (λ c. stays _ _ _ _ c.before.before.before.before.loop.invariant.1 _ c.before.before.before.before.loop.invariant.0 c.if1.true)
-    (λ c κs. search rules)
-    (λ c. search rules)
-    (λ c. search rules)
-    loop-again
-    (λ c. last _ _ _ _ c.before.before.loop.invariant.1 _ (omega arith)))
+pub returns : goal.returns
+returns c = last _ _ _ _ c.loop-i.invariant.1 _ (omega arith)

@@ -6,7 +6,6 @@ use native.Mathlib.Nat.{mul-le-mul}
 use native.Mathlib.Numerals.{add-one}
 use native.Mathlib.Omega.{arith}
 use lib.ListN.{drop}
-use borrow.Author.Rules.{rules}
 use Rattle.base.specs.Size.{stop_count}
 use Rattle.base.proofs.Outcome.{refused}
 use Rattle.base.proofs.Size.{stop_count-pow, pow-le-1024}
@@ -18,8 +17,7 @@ use Rattle.path.proofs.PlaceLaws.{size-range, place_is, largest_stop}
 use Rattle.reader.specs.Draws.{draw_answer, draw_of, stop_before, step_of, step_at}
 use Rattle.reader.specs.declared.Drawn.{Drawn}
 use Rattle.reader.proofs.StepLaws.{drawn-below, of-drawn, of_other, step-refused, step-head}
-use Rattle.reader.proofs.draws.draw_at.Statement.{statement}
-use Rattle.reader.proofs.draws.draw_at.Tie as tie
+use Rattle.reader.proofs.draws.draw_at.Goals as goal
 
 -- ---- after an accepted head
 
@@ -30,6 +28,10 @@ record Drew (bytes : List ℕ) (at version : ℕ) (h : Head) (i n : ℕ) (d : Dr
   pub here : i ≡ stop_before h.version at
   pub count : n ≡ stop_count h.k
   pub drew : d ≡ draw_answer (draw_of bytes h.version n i)
+
+-- what the calls promise makes it
+drew : (bytes : List ℕ) (at version : ℕ) (h : Head) (i n : ℕ) (d : Drawn) → h ≡ head_given (read_head bytes version) → h.refused ≡ 0 → i ≡ stop_before h.version at → n ≡ stop_count h.k → d ≡ draw_answer (draw_of bytes h.version n i) → Drew bytes at version h i n d
+drew bytes at version h i n d judged good here count e = record { judged = judged; good = good; here = here; count = count; drew = e }
 
 module _ {bytes : List ℕ} {at version : ℕ} {h : Head} {i n : ℕ} {d : Drawn} (w : Drew bytes at version h i n d) where
   small : h.k ≤ 10
@@ -70,41 +72,35 @@ module _ {bytes : List ℕ} {at version : ℕ} {h : Head} {i n : ℕ} {d : Drawn
 
 -- ---- the places of the code
 
--- the judged head, from the place where a draw was made
-abbrev head : tie.After-draw-of → tie.After-judge-head
-head c = c.before.before.before.before
-
-drew : (c : tie.After-draw-of) → let a = (head c).before.before.args in Drew a.bytes.now a.at a.version (head c).judge-head.result c.before.before.stop-before.result c.before.stop-count.result c.draw-of.result
-drew c = record {
-  judged = (head c).judge-head.ensures;
-  good = c.before.before.before.if1.false;
-  here = c.before.before.stop-before.ensures;
-  count = c.before.stop-count.ensures;
-  drew = c.draw-of.ensures;
-}
-
-returns : tie.Need-returns
-returns c =
-    let judged = c.before.before in
-    let a = judged.before.before.args in
-    let r = judged.judge-head.result.refused in
-    let bad = refused (read_head a.bytes.now a.version) r (ap (λ (h : Head). h.refused) judged.judge-head.ensures) c.before.if1.true in
-    ap (λ (d : Drawn). record { drawn = d; at = a.at; version = a.version }) c.refusal-drawn.ensures
+pub returns-then-refused-ne0 : goal.returns-then-refused-ne0
+returns-then-refused-ne0 c =
+    let a = c.args in
+    let r = c.judge_head-head.result.refused in
+    let bad = refused (read_head a.bytes.now a.version) r (ap (λ (h : Head). h.refused) c.judge_head-head.ensures) c.if-refused-ne0.true in
+    ap (λ (d : Drawn). record { drawn = d; at = a.at; version = a.version }) c.refusal_drawn.ensures
     ∙ sym (step-refused a.bytes.now a.at a.version r bad)
 
-pub draw_at_spec : {M : Type 1} → statement M
-draw_at_spec =
-    tie.close
-    (tie.spec
-    (λ c κs. search rules)
-    (λ c κs. search rules)
-    returns
-    (λ c κs. search rules)
-    (λ c κs. search rules)
-    (λ c κs. search rules)
-    (λ c. other (drew c.before.before) c.if2.true)
-    (λ c. omega (arith, below (drew c.before.before) c.if2.false))
-    (λ c κs. search rules)
-    (λ c. omega (arith, near (drew c.before.before.before) c.before.if2.false c.stop-size.result c.stop-size.ensures))
-    (λ c. omega (arith, near (drew c.before.before.before) c.before.if2.false c.stop-size.result c.stop-size.ensures))
-    (λ c. next (drew c.before.before.before) c.before.if2.false c.stop-size.result c.stop-size.ensures))
+pub returns-then-drawn-ne-A_STOP : goal.returns-then-drawn-ne-A_STOP
+returns-then-drawn-ne-A_STOP c =
+    other (drew c.args.bytes.now c.args.at _ _ _ _ _ c.judge_head-head.ensures c.if-refused-ne0.false c.stop_before-i.ensures c.stop_count.ensures c.draw_of-drawn.ensures)
+    c.if-drawn-ne-A_STOP.true
+
+pub overflow_add-result : goal.overflow_add-result
+overflow_add-result c =
+    let w = drew c.args.bytes.now c.args.at _ _ _ _ _ c.judge_head-head.ensures c.if-refused-ne0.false c.stop_before-i.ensures c.stop_count.ensures c.draw_of-drawn.ensures in
+    omega (arith, below w c.if-drawn-ne-A_STOP.false)
+
+pub overflow_mul-result : goal.overflow_mul-result
+overflow_mul-result c =
+    let w = drew c.args.bytes.now c.args.at _ _ _ _ _ c.judge_head-head.ensures c.if-refused-ne0.false c.stop_before-i.ensures c.stop_count.ensures c.draw_of-drawn.ensures in
+    omega (arith, near w c.if-drawn-ne-A_STOP.false c.stop_size.result c.stop_size.ensures)
+
+pub overflow_add-result-2 : goal.overflow_add-result-2
+overflow_add-result-2 c =
+    let w = drew c.args.bytes.now c.args.at _ _ _ _ _ c.judge_head-head.ensures c.if-refused-ne0.false c.stop_before-i.ensures c.stop_count.ensures c.draw_of-drawn.ensures in
+    omega (arith, near w c.if-drawn-ne-A_STOP.false c.stop_size.result c.stop_size.ensures)
+
+pub returns : goal.returns
+returns c =
+    next (drew c.args.bytes.now c.args.at _ _ _ _ _ c.judge_head-head.ensures c.if-refused-ne0.false c.stop_before-i.ensures c.stop_count.ensures c.draw_of-drawn.ensures)
+    c.if-drawn-ne-A_STOP.false c.stop_size.result c.stop_size.ensures
