@@ -3,15 +3,13 @@ use mathlib.Core.Path.{◌≡◌}
 use Prim.Native.Nat.{ℕ}
 use lib.Dec.{eqb}
 use borrow.Author.Tests.{eq-eqb, ne_eqb}
-use borrow.Author.Rules.{rules}
 use Rattle.base.specs.Refusal.{wrong_total}
 use Rattle.base.specs.Outcome.{Outcome, gives, refuses, and_then, need}
 use Rattle.order_file.specs.declared.FileRead.{FileRead}
 use Rattle.order_file.specs.declared.FileRead.TheVariants.{Read, Refused}
 use Rattle.order_file.specs.Read as read
 use Rattle.jobs.specs.Check.{said}
-use Rattle.jobs.proofs.check.compare_total.Statement.{statement}
-use Rattle.jobs.proofs.check.compare_total.Tie as tie
+use Rattle.jobs.proofs.check.compare_total.Goals as goal
 
 abbrev compared : FileRead → ℕ → Outcome Unit
 compared r sum = and_then (read.said r) (λ total. need (eqb total sum) wrong_total (gives tt))
@@ -28,17 +26,14 @@ refused : (r : FileRead) (sum n : ℕ) → r ≡ Refused n → refuses n ≡ com
 unfolding read.said
 refused r sum n e = rw e
 
-returns : tie.Need-returns
+pub returns-then-total-sum : goal.returns-then-total-sum
 unfolding said
-returns c = other _ _ _ c.before.before.read2.given.1 c.if1.true
+returns-then-total-sum c = other _ _ _ c.in-Read.is c.if-total-sum.true
 
-returns-2 : tie.Need-returns-2
+pub returns-in-Refused : goal.returns-in-Refused
 unfolding said
-returns-2 c = refused _ _ _ c.before.read.given.1
+returns-in-Refused c = refused _ _ _ c.in-Refused.is
 
-returns-3 : tie.Need-returns-3
+pub returns-else-total-sum : goal.returns-else-total-sum
 unfolding said
-returns-3 c = same _ _ _ c.before.before.read2.given.1 c.if1.false
-
-pub compare_total_spec : {M : Type 1} → statement M
-compare_total_spec = tie.close (tie.spec (λ c. search rules) (λ c. search rules) returns returns-2 returns-3)
+returns-else-total-sum c = same _ _ _ c.in-Read.is c.if-total-sum.false

@@ -1,0 +1,7 @@
+-- `jobs::plan::file_by` meets its contract: the planner's order is written.
+use mathlib.Core.Path.{refl}
+use Rattle.jobs.proofs.Planning.{table-filed}
+use Rattle.jobs.proofs.plan.file_by.Goals as goal
+
+pub returns : goal.returns
+returns c = table-filed _ _ _ _ _ _ _ _ _ _ _ _ c.requires refl refl refl c.plan.ensures c.write_order_file.ensures
