@@ -11,7 +11,6 @@ use Rattle.tree.specs.Block.{beside_of}
 use Rattle.tree.specs.Neighbour.{trail, reach}
 use Rattle.tree.proofs.Beside.{trail-odd, trail-even, shr-suc}
 use Rattle.tree.proofs.Block.{xor-one}
-use Rattle.walks.specs.Best.{at}
 use Rattle.walks.specs.Rows.{turn, loop}
 use Rattle.filled.specs.Forks.{filled_below, above}
 use Rattle.filled.specs.Row.{unreached, total_in, least_in}
