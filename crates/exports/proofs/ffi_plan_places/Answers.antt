@@ -1,0 +1,60 @@
+-- `exports::ffi_plan_places` meets its contract, by what the call behind it promises.
+use borrow.Author.Rules.{rules}
+use Rattle.planner.specs.Places.{order_said}
+use Rattle.signed.specs.Result.{signed}
+use Rattle.exports.proofs.Exports.{exported, handed}
+use Rattle.exports.proofs.ffi_plan_places.Goals as goal
+
+pub plan_places-answer-requires : goal.plan_places-answer-requires
+unfolding order_said signed
+plan_places-answer-requires c = search rules
+
+pub enum_known-answer : goal.enum_known-answer
+unfolding order_said signed
+enum_known-answer c = search rules
+
+pub value-requires : goal.value-requires
+unfolding order_said signed
+value-requires c = search rules
+
+pub enum_known-answer-in-Refused-1 : goal.enum_known-answer-in-Refused-1
+unfolding order_said signed
+enum_known-answer-in-Refused-1 c = search rules
+
+pub refusal-requires : goal.refusal-requires
+unfolding order_said signed
+refusal-requires c = search rules
+
+pub shape_of-order-in-Done : goal.shape_of-order-in-Done
+unfolding order_said signed
+shape_of-order-in-Done c = search rules
+
+pub shape_of-totals-in-Done : goal.shape_of-totals-in-Done
+unfolding order_said signed
+shape_of-totals-in-Done c = search rules
+
+pub shape_of-pivots-in-Done : goal.shape_of-pivots-in-Done
+unfolding order_said signed
+shape_of-pivots-in-Done c = search rules
+
+pub returns-in-Done : goal.returns-in-Done
+unfolding order_said signed
+returns-in-Done c =
+    exported order_said _ _ _ _ c.plan_places-answer.ensures c.in-Done.is _ (handed _ _ c.value.type_inv c.value.ensures)
+
+pub shape_of-order-in-Refused : goal.shape_of-order-in-Refused
+unfolding order_said signed
+shape_of-order-in-Refused c = search rules
+
+pub shape_of-totals-in-Refused : goal.shape_of-totals-in-Refused
+unfolding order_said signed
+shape_of-totals-in-Refused c = search rules
+
+pub shape_of-pivots-in-Refused : goal.shape_of-pivots-in-Refused
+unfolding order_said signed
+shape_of-pivots-in-Refused c = search rules
+
+pub returns-in-Refused : goal.returns-in-Refused
+unfolding order_said signed
+returns-in-Refused c =
+    exported order_said _ _ _ _ c.plan_places-answer.ensures c.in-Refused.is _ (handed _ _ c.refusal.type_inv c.refusal.ensures)
