@@ -197,7 +197,7 @@ module _ (k : ℕ) (table file order bits : List ℕ) where
   unfolding read.said
   read-refused r e f =
       let o = refused (read.read_file k table file (length order) (length bits)) r e f in
-      record { said = rw o; order-left = rw o; bits_left = rw o }
+      record { said = rw o; order_left = rw o; bits_left = rw o }
 
   -- a file that is accepted is the outcome
   pub read-gives : number (read.read_file k table file (length order) (length bits)) ≡ 0 → read.read_file k table file (length order) (length bits) ≡ gives (stage.says k file)
@@ -213,7 +213,7 @@ module _ (k : ℕ) (table file order bits : List ℕ) where
   unfolding read.said
   read_made sum order' bits' e t w v =
       let o = read-gives e in
-      record { said = rw o (ap gives t); order-left = rw o w; bits_left = rw o v }
+      record { said = rw o (ap gives t); order_left = rw o w; bits_left = rw o v }
 
 -- ---- writing
 

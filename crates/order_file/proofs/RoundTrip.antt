@@ -210,7 +210,7 @@ read_again k order table out out' size entries first places places' room room' r
     = read-contents k table (take size out') (length places) (length room) lent
     ∙ ap (judge_file k t) bytes
     ∙ file-good k t o w.judged.small w.judged.allowed (total-fits k table o w.judged.small long entries) in
-    (only-read r (total t o) (second.said ∙ rw is), second.order-left ∙ rw is, second.bits_left ∙ rw is)
+    (only-read r (total t o) (second.said ∙ rw is), second.order_left ∙ rw is, second.bits_left ∙ rw is)
   where
     gives_same : (a b : ℕ) → gives a ≡ gives b → a ≡ b
     gives_same a b e = cc
@@ -232,7 +232,7 @@ write_again k table file order order' bits bits' sum bytes first out out' r room
     let l = read-lent k table file (length order) (length bits) z in
     let a = file-accepted k t file l.1 in
     let o : List ℕ = stage.stops k file in
-    let left : order' ≡ over o order = first.order-left ∙ rw (read-gives k table file order bits z) in
+    let left : order' ≡ over o order = first.order_left ∙ rw (read-gives k table file order bits z) in
     let front : order_in k order' ≡ o = ap (take (2 ^ k)) left ∙ over-front (2 ^ k) o order (allowed-long k o a.0.allowed) in
     let judged : JudgedOrder k order' = rw left (holds-order k o order l.0.small a.0.allowed) in
     let w : Writes k order' table (length out) = record { judged = judged; square = l.0.square; long = room } in

@@ -42,7 +42,7 @@ ReadsUnsummed k file order r = FileIsUnsummed k (contents file) (at_entry order)
 -- and with one: the answer, and the lent places and bytes
 pub record FileIsRead (k : ℕ) (table file order order' bits bits' : List ℕ) (r : FileRead) : Type 0 where
   pub said : said r ≡ giving (λ f. f.total) (read_file k table file (length order) (length bits))
-  pub order-left : order' ≡ after (read_file k table file (length order) (length bits)) (λ f. f.order) order
+  pub order_left : order' ≡ after (read_file k table file (length order) (length bits)) (λ f. f.order) order
   pub bits_left : bits' ≡ after (read_file k table file (length order) (length bits)) (λ f. f.string) bits
 
 abbrev pub ReadsFile : ℕ → SharedUnsigned → SharedUnsigned → Unsigned → Unsigned → FileRead → Type 0
