@@ -3,7 +3,7 @@
 .PHONY: run test rust rust-test bench
 
 run:
-	rt check plan
+	tools/build.sh plan
 	@echo 'The path:'
 	@examples/show.py <examples/paths/good-fifty-5.path
 	@echo 'Its order file, as the program writes it:'
@@ -13,8 +13,7 @@ test:
 	.ci/run
 
 rust:
-	rt staticlib exports
-	rt staticlib cell
+	tools/build.sh exports cell
 	cd rust && cargo build --release --offline
 
 rust-test:

@@ -6,7 +6,7 @@ set -euo pipefail
 if [ $# -gt 0 ]; then plan=$(realpath "$1") all_orders=$(realpath "$2"); else plan= all_orders=; fi
 cd "$(dirname "$0")/.."
 if [ -z "$plan" ]; then
-    rt check plan all_orders
+    tools/build.sh plan all_orders
     plan=$PWD/target/bin/plan all_orders=$PWD/target/bin/all_orders
 fi
 

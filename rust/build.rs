@@ -1,4 +1,4 @@
-//! Links the static libraries that `rt staticlib` writes at the top of the repository: the exported calls, and the controller's.
+//! Links the static libraries that `tools/build.sh` writes: the exported calls, and the controller's.
 use std::{env, path::Path};
 
 fn main() {

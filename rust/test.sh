@@ -3,12 +3,8 @@
 # With the word `valgrind` it runs a smaller number under valgrind instead, with the word `all` both.
 set -euo pipefail
 cd "$(dirname "$0")/.."
-mkdir -p target
-for name in exports cell; do
-    rt staticlib "$name" >target/rust.log 2>&1 || { cat target/rust.log; exit 1; }
-done
-# the program that tests/programs.rs runs
-rt check all_orders >target/rust.log 2>&1 || { cat target/rust.log; exit 1; }
+# the libraries, and the program that tests/programs.rs runs
+tools/build.sh exports cell all_orders
 cd rust
 what=${1:-tests}
 if [ "$what" != valgrind ]; then

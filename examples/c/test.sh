@@ -2,7 +2,7 @@
 # Builds the examples against the static library and runs them; fails where an answer differs.
 set -euo pipefail
 cd "$(dirname "$0")/../.."
-rt staticlib cell
+tools/build.sh cell
 mkdir -p target/c
 for name in fifty check; do
     gcc -std=c11 -Wall -Wextra -Werror -O2 -Iinclude "examples/c/$name.c" target/staticlib/libcell.a -o "target/c/$name"

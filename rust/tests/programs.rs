@@ -358,7 +358,7 @@ fn file(name: &str) -> PathBuf {
 /// What the program `all_orders` prints for bytes on standard input. It may be done before it took them all.
 fn printed(bytes: &[u8]) -> Vec<u8> {
     let program = file("target/bin/all_orders");
-    let mut run = Command::new(&program).stdin(Stdio::piped()).stdout(Stdio::piped()).spawn().expect("target/bin/all_orders, which rt check all_orders builds");
+    let mut run = Command::new(&program).stdin(Stdio::piped()).stdout(Stdio::piped()).spawn().expect("target/bin/all_orders, which tools/build.sh builds");
     let given = run.stdin.take().expect("a pipe").write_all(bytes);
     assert!(given.is_ok() || given.is_err_and(|error| error.kind() == ErrorKind::BrokenPipe));
     let done = run.wait_with_output().expect("the program's output");
