@@ -1,8 +1,6 @@
 -- `stop::judge_each` meets its contract. The invariant: every stop passed is in range.
-use Prim.Native.Nat.{◌-◌}
 use mathlib.Core.Path.{◌≡◌, sym, ◌∙◌}
 use native.Mathlib.Omega.{arith}
-use mathlib.Core.Bool.{true}
 use borrow.Author.Count.{below_none, below_more}
 use borrow.Author.Rules.{rules}
 use Rattle.base.specs.Outcome.{number}
