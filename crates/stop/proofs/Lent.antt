@@ -1,7 +1,7 @@
 -- Laws of stops in lent buffers: how many there are and which, that buffers made of stops give them back whatever follows, and the
 -- other way round, and that a list is in range exactly if each of its stops is.
 use mathlib.Core.Path.{◌≡◌, refl, sym, ap, ◌∙◌}
-use mathlib.Core.Bool.{true, false, ◌&&◌, and-false}
+use mathlib.Core.Bool.{Bool, true, false, ◌&&◌, and-false}
 use mathlib.Core.List.{List, [], ◌∷◌, ◌++◌}
 use Prim.Native.Nat.{ℕ, zero, suc, ◌+◌, ◌*◌, ◌≤◌, ◌<◌, zero-le, suc-le-suc}
 use native.Mathlib.Nat.{le_of_suc-le-suc, not-suc-le-zero}
@@ -12,10 +12,9 @@ use lib.ListN.{length, get_or, take, drop, length-map, length-drop, get_or-eq_de
 use lib.Seq.{get_or-drop}
 use lib.IntN.{ℤ, pos}
 use borrow.Author.Tests.{leb-true}
-use Rattle.base.specs.Refusal.{out_of_range, wrong_size}
+use Rattle.base.specs.Refusal.{out_of_range}
 use Rattle.base.specs.Outcome.{gives, number, over}
 use Rattle.base.proofs.Bools.{and_left, and_right}
-use Rattle.base.proofs.Outcome.{passed}
 use Rattle.stop.specs.declared.Stop.{Stop}
 use Rattle.stop.specs.Stop.{in_range, zero_stop}
 use Rattle.base.specs.Lists.{tabulate}
@@ -199,23 +198,30 @@ places n lent e =
       leb-true _ _ (and_right (points && speeds && blends) dwells e),
     )
 
-pub judged-lent : (n : ℕ) (lent : LentStops) → number (judge_lent n lent) ≡ 0 → Judged n lent
+-- both tests passed, whichever comes first
+both-passed : (n : ℕ) (lent : LentStops) → number (judge_lent n lent) ≡ 0 → (stops_fit n lent ≡ true) × (all_in_range (first_stops n lent) ≡ true)
 unfolding judge_lent judge_all
+both-passed n lent e = by-tests (stops_fit n lent) (all_in_range (first_stops n lent)) refl refl
+  where
+    by-tests : (fits good : Bool) → stops_fit n lent ≡ fits → all_in_range (first_stops n lent) ≡ good → (stops_fit n lent ≡ true) × (all_in_range (first_stops n lent) ≡ true)
+    by-tests true true p q = (p, q)
+    by-tests true false p q = let h = simp (p, q) at e in absurd (omega (arith, h))
+    by-tests false true p q = let h = simp (p, q) at e in absurd (omega (arith, h))
+    by-tests false false p q = let h = simp (p, q) at e in absurd (omega (arith, h))
+
+pub judged-lent : (n : ℕ) (lent : LentStops) → number (judge_lent n lent) ≡ 0 → Judged n lent
 judged-lent n lent e =
-    let stops = first_stops n lent in
-    let fits = passed (stops_fit n lent) wrong_size (judge_all stops) (omega arith) e in
-    let room = places n lent fits.holds in
+    let both = both-passed n lent e in
+    let room = places n lent both.0 in
     record {
       coordinate_places = room.0;
       speed_places = room.1;
       blend_places = room.2;
       dwell_places = room.3;
-      in_range = (passed (all_in_range stops) out_of_range (gives stops) (omega arith) fits.goes_on).holds;
+      in_range = both.1;
     }
 
 -- what it gives
 pub judged-gives : (n : ℕ) (lent : LentStops) → number (judge_lent n lent) ≡ 0 → judge_lent n lent ≡ gives (first_stops n lent)
 unfolding judge_lent judge_all
-judged-gives n lent e =
-    let fits = passed (stops_fit n lent) wrong_size (judge_all (first_stops n lent)) (omega arith) e in
-    fits.same ∙ (passed (all_in_range (first_stops n lent)) out_of_range (gives (first_stops n lent)) (omega arith) fits.goes_on).same
+judged-gives n lent e = let both = both-passed n lent e in simp (both.0, both.1)

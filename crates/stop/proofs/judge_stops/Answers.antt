@@ -4,7 +4,7 @@ use Prim.Native.Nat.{◌*◌}
 use native.Mathlib.Omega.{arith}
 use lib.ListN.{length}
 use borrow.Author.Tests.{le-leb, lt-leb}
-use Rattle.stop.specs.Lent.{stops_fit, judge_lent}
+use Rattle.stop.specs.Lent.{stops_fit, judge_all, judge_lent}
 use Rattle.stop.proofs.judge_stops.Goals as goal
 
 pub returns-then-coords-count : goal.returns-then-coords-count
@@ -24,7 +24,7 @@ unfolding judge_lent stops_fit
 returns-then-dwells-count c = let a = c.args in rw (lt-leb a.count (length a.dwells.now) (omega arith), and-false)
 
 pub returns : goal.returns
-unfolding judge_lent stops_fit
+unfolding judge_lent judge_all stops_fit
 returns c =
     let a = c.args in rw (
       le-leb (3 * a.count) (length a.coords.now) (omega arith),

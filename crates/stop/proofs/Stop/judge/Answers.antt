@@ -5,7 +5,7 @@ use native.Mathlib.Omega.{arith}
 use lib.ListN.{length}
 use borrow.Author.Rules.{rules}
 use borrow.Author.Tests.{lt-leb}
-use Rattle.stop.specs.Stop.{good_coordinate, good_point, in_range, judge_stop, coordinate, longest_dwell}
+use Rattle.stop.specs.Stop.{good_coordinate, good_point, in_range, judge_stop, coordinate, slowest, fastest, largest_blend, longest_dwell}
 use Rattle.stop.proofs.Limits.{told-good, all-passed}
 use Rattle.stop.proofs.Stop.judge.Goals as goal
 use Rattle.stop.proofs.Stop.judge.Goals.{After-good_coordinate, After-good_coordinate-2, After-good_coordinate-3}
@@ -35,15 +35,18 @@ returns-then-not-good_coordinate-3 c = simp (z-told c.before ∙ c.if-not-good_c
 
 pub returns-then-self-lt-SLOWEST : goal.returns-then-self-lt-SLOWEST
 unfolding judge_stop in_range good_point
-returns-then-self-lt-SLOWEST c = simp (lt-leb _ _ c.if-self-lt-SLOWEST.true, and-false)
+returns-then-self-lt-SLOWEST c =
+    let s = c.args.self in simp (lt-leb slowest s.speed (omega (arith, c.if-self-lt-SLOWEST.true)), and-false)
 
 pub returns-then-self-gt-FASTEST : goal.returns-then-self-gt-FASTEST
 unfolding judge_stop in_range good_point
-returns-then-self-gt-FASTEST c = simp (lt-leb _ _ c.if-self-gt-FASTEST.true, and-false)
+returns-then-self-gt-FASTEST c =
+    let s = c.args.self in simp (lt-leb s.speed fastest (omega (arith, c.if-self-gt-FASTEST.true)), and-false)
 
 pub returns-then-self-gt-LARGEST_BLEND : goal.returns-then-self-gt-LARGEST_BLEND
 unfolding judge_stop in_range good_point
-returns-then-self-gt-LARGEST_BLEND c = simp (lt-leb _ _ c.if-self-gt-LARGEST_BLEND.true, and-false)
+returns-then-self-gt-LARGEST_BLEND c =
+    let s = c.args.self in simp (lt-leb s.blend largest_blend (omega (arith, c.if-self-gt-LARGEST_BLEND.true)), and-false)
 
 pub returns-then-self-gt-LONGEST_DWELL : goal.returns-then-self-gt-LONGEST_DWELL
 unfolding judge_stop in_range good_point
