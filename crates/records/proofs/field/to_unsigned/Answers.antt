@@ -1,6 +1,6 @@
 -- `records::to_unsigned` meets its contract: a number that is not negative is itself, and for a negative one the inverted bits are taken from 2^32 - 1.
 use mathlib.Core.Path.{sym}
-use Prim.Native.Nat.{◌-◌, ◌<◌, ◌^◌}
+use Prim.Native.Nat.{◌<◌, ◌^◌}
 use native.Mathlib.Omega.{arith}
 use mir.Syntax.{w32}
 use mir.ValLaws.{to_z-of_z}
