@@ -10,7 +10,7 @@ use lib.Seq.{length-take-le, take_at, drop_at, drop-drop}
 use borrow.Author.Tests.{le-leb, lt-leb, eq-eqb, ne_eqb, leb-true, eqb-true}
 use Rattle.base.proofs.Bools.{and_right}
 use Rattle.records.specs.Field.{number_of, bytes_of, are_bytes}
-use Rattle.base.specs.Outcome.{Outcome, gives, refuses, need, number}
+use Rattle.base.specs.Outcome.{Outcome, gives, refuses, number}
 use Rattle.records.specs.Record.{take_record, Taken, taken, kind_said, length_said, is_due, is_kind, record_bytes}
 use Rattle.records.proofs.FieldLaws.{length-bytes_of, number-bytes_of, bytes_of-number, are_bytes-take, are_bytes-drop}
 
@@ -50,26 +50,14 @@ module _ (kind long : ℕ) (s : List ℕ) where
   -- a claim about what stands at the front of bytes is shown for a whole record and for each refusal, whose number is not 0
   pub by-taken : (P : Outcome Taken → Type 0) → (Whole kind long s (take (long - 2) (drop 4 s)) (drop (2 + long) s) → P (gives (taken (take (long - 2) (drop 4 s)) (drop (2 + long) s)))) → ((n : ℕ) → (n ≡ 0 → ⊥) → P (refuses n)) → P (take_record kind long s)
   unfolding take_record
-  by-taken P good bad = by_size (leb 4 (length s)) refl
+  by-taken P good bad =
+      by-tests (leb 4 (length s)) (is_due kind (kind_said s)) (eqb (length_said s) long) (leb (2 + long) (length s)) refl refl refl refl
     where
-      found : Outcome Taken
-      found = gives (taken (take (long - 2) (drop 4 s)) (drop (2 + long) s))
-
-      by-rest : 4 ≤ length s → is_due kind (kind_said s) ≡ true → length_said s ≡ long → (b : Bool) → leb (2 + long) (length s) ≡ b → P (need b 1 found)
-      by-rest h d l true e = good (record { present = h; due = d; says = l; enough = leb-true _ _ e; content-is = refl; rest-is = refl })
-      by-rest h d l false e = bad 1 (λ z. omega arith)
-
-      by_length : 4 ≤ length s → is_due kind (kind_said s) ≡ true → (b : Bool) → eqb (length_said s) long ≡ b → P (need b 2 (need (leb (2 + long) (length s)) 1 found))
-      by_length h d true l = by-rest h d (eqb-true _ _ l) (leb (2 + long) (length s)) refl
-      by_length h d false l = bad 2 (λ z. omega arith)
-
-      by_kind : 4 ≤ length s → (b : Bool) → is_due kind (kind_said s) ≡ b → P (need b 3 (need (eqb (length_said s) long) 2 (need (leb (2 + long) (length s)) 1 found)))
-      by_kind h true d = by_length h d (eqb (length_said s) long) refl
-      by_kind h false d = bad 3 (λ z. omega arith)
-
-      by_size : (b : Bool) → leb 4 (length s) ≡ b → P (need b 1 (need (is_due kind (kind_said s)) 3 (need (eqb (length_said s) long) 2 (need (leb (2 + long) (length s)) 1 found))))
-      by_size true h = by_kind (leb-true _ _ h) (is_due kind (kind_said s)) refl
-      by_size false h = bad 1 (λ z. omega arith)
+      by-tests : (size due said end : Bool) → leb 4 (length s) ≡ size → is_due kind (kind_said s) ≡ due → eqb (length_said s) long ≡ said → leb (2 + long) (length s) ≡ end → P (take_record kind long s)
+      by-tests true true true true h d l e =
+          simp (h, d, l, e) (good (record { present = leb-true _ _ h; due = d; says = eqb-true _ _ l; enough = leb-true _ _ e; content-is = refl; rest-is = refl }))
+      by-tests true false true end h d l e = simp (h, d, l, e) (bad _ (λ z. omega arith))
+      by-tests size due said end h d l e = simp (h, d, l, e) (bad _ (λ z. omega arith))
 
 pub taken-whole : (kind long : ℕ) (s content rest : List ℕ) → take_record kind long s ≡ gives (taken content rest) → Whole kind long s content rest
 taken-whole kind long s content rest =
