@@ -11,7 +11,7 @@ use Rattle.signed.proofs.value.Goals.{After-at_most}
 
 -- what is cast
 most : (c : After-at_most) → c.at_most.result ≤ largest
-most c = rw c.at_most.ensures (held largest c.args.v)
+most c = omega (arith, held)
 
 pub overflow_cast-result : goal.overflow_cast-result
 overflow_cast-result c = record { sfits = omega (arith, most c) }
