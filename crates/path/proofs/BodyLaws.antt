@@ -10,7 +10,7 @@ use lib.ListN.{length, drop, length-drop}
 use lib.Seq.{drop-drop}
 use borrow.Author.Tests.{eqb-true, eqb-false, ne_eqb, le-leb}
 use Rattle.base.specs.Refusal.{trailing_bytes}
-use Rattle.base.specs.Outcome.{Outcome, gives, refuses, need, and_then, giving, number}
+use Rattle.base.specs.Outcome.{gives, refuses, need, and_then, giving, number}
 use Rattle.base.proofs.Outcome.{refused, number-giving}
 use Rattle.base.specs.Lists.{tabulate}
 use Rattle.base.proofs.Lists.{tabulate-cong}

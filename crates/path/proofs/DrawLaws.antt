@@ -10,7 +10,7 @@ use lib.ListN.{length, take, drop, get_or, length-append, get_or-append}
 use borrow.Author.Count.{below_more}
 use lib.Seq.{drop-drop}
 use borrow.Author.Tests.{lt-ltb, le-ltb}
-use Rattle.base.specs.Outcome.{Outcome, gives, refuses, and_then, giving, number}
+use Rattle.base.specs.Outcome.{gives, refuses, and_then, giving, number}
 use Rattle.base.proofs.Outcome.{refused}
 use Rattle.records.specs.Record.{record_length}
 use Rattle.records.proofs.RecordLaws.{by-taken}

@@ -9,12 +9,11 @@ use lib.ListN.{length, drop}
 use borrow.Author.Tests.{le-leb, leb-true}
 use Rattle.base.specs.Outcome.{Outcome, gives, refuses, and_then, giving, number}
 use Rattle.base.proofs.Outcome.{refused, passed, number-giving, number-first}
-use Rattle.stop.specs.declared.Stop.{Stop}
 use Rattle.stop.specs.Lent.{all_in_range}
 use Rattle.path.specs.declared.Head.{Head}
-use Rattle.path.specs.Path.{PathHead, path_head, Path, path, read_head, read_on, read_path, read_body, body_after_head, known_version, stops_in, stop_place}
+use Rattle.path.specs.Path.{PathHead, path_head, path, read_head, read_on, read_path, read_body, body_after_head, known_version, stops_in, stop_place}
 use Rattle.path.specs.Reading.{head_given, path_given}
-use Rattle.path.proofs.BodyLaws.{body-in, StopsInPlace}
+use Rattle.path.proofs.BodyLaws.{body-in}
 use Rattle.path.proofs.HeadLaws.{Seen, good-head, bad-head, head-seen, answer-good}
 
 -- ---- a path is read head first

@@ -11,7 +11,7 @@ use Rattle.records.specs.Record.{take_record, record_length}
 use Rattle.records.proofs.Numbers.{record-numbered}
 use Rattle.stop.specs.declared.Stop.{Stop}
 use Rattle.stop.specs.Stop.{judge_stop, in_range}
-use Rattle.path.specs.Path.{Path, PathHead, path, known_version, read_head, head_of, head_fields, stop_of, stop_then, end_of, read_body, read_on, read_path}
+use Rattle.path.specs.Path.{path, known_version, read_head, head_of, head_fields, stop_of, stop_then, end_of, read_body, read_on, read_path}
 use Rattle.path.specs.Written.{write_stops, loses_any, path_bytes}
 
 fields-numbered : (highest version k : ℕ) (rest : List ℕ) → Numbered (head_fields highest version k rest)

@@ -1,11 +1,11 @@
 -- Laws of the reading call: what its promise is for each outcome.
-use mathlib.Core.Path.{◌≡◌, refl, sym, ap, ◌∙◌}
+use mathlib.Core.Path.{◌≡◌, ap}
 use mathlib.Core.Bool.{true}
 use native.Mathlib.Omega.{arith}
 use mathlib.Core.List.{List}
 use Prim.Native.Nat.{ℕ, ◌^◌}
 use Rattle.base.specs.Refusal.{wrong_size}
-use Rattle.base.specs.Outcome.{Outcome, gives, refuses, giving, number}
+use Rattle.base.specs.Outcome.{gives, refuses, number}
 use Rattle.base.proofs.Outcome.{passed}
 use Rattle.stop.specs.declared.Stop.{Stop}
 use Rattle.stop.specs.Lent.{LentStops, over_stops, stops_fit}

@@ -9,11 +9,11 @@ use lib.ListN.{length, take, drop, length-drop}
 use lib.Seq.{take-take, drop-drop}
 use lib.Dec.{eqb}
 use borrow.Author.Tests.{le-leb, ne_eqb, eqb-true, eqb-false}
-use Rattle.base.specs.Outcome.{Outcome, gives, refuses, and_then, giving, number}
+use Rattle.base.specs.Outcome.{Outcome, refuses, and_then, giving, number}
 use Rattle.base.proofs.Outcome.{refused, number-first}
 use Rattle.records.specs.Field.{number_of, signed}
 use Rattle.base.proofs.Bools.{and_right}
-use Rattle.records.specs.Record.{Taken, record_length, take_record, is_kind, is_due, kind_said, length_said, later_fields, blend_since, dwell_since}
+use Rattle.records.specs.Record.{record_length, take_record, is_kind, is_due, kind_said, length_said, later_fields, blend_since, dwell_since}
 use Rattle.records.proofs.LengthLaws.{stop-length}
 use Rattle.records.proofs.Versions.{later-blend, later-dwell}
 use Rattle.records.proofs.RecordLaws.{Whole, by-taken, whole, number-good}

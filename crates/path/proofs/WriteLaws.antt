@@ -1,5 +1,5 @@
 -- Laws of the writing calls: which test decides, and what number 0 tells.
-use mathlib.Core.Path.{◌≡◌, refl, sym, ap, ◌∙◌}
+use mathlib.Core.Path.{◌≡◌, refl, ◌∙◌}
 use mathlib.Core.Bool.{Bool, true, false, ◌||◌, not}
 use mathlib.Core.List.{List}
 use Prim.Native.Nat.{ℕ, zero, suc, ◌+◌, ◌^◌, ◌≤◌, ◌<◌}
@@ -7,7 +7,7 @@ use native.Mathlib.Omega.{arith}
 use lib.Dec.{leb}
 use lib.ListN.{length, drop}
 use borrow.Author.Tests.{le-leb, lt-leb, leb-true, not-true}
-use Rattle.base.specs.Outcome.{Outcome, gives, refuses, need, and_then, number, over}
+use Rattle.base.specs.Outcome.{Outcome, gives, refuses, need, number, over}
 use Rattle.base.proofs.Outcome.{passed, refused, number-first}
 use Rattle.base.specs.Lists.{tabulate}
 use Rattle.base.proofs.Lists.{length-tabulate}

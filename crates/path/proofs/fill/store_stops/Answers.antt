@@ -1,6 +1,6 @@
 -- `path::store_stops` meets its contract: after i turns the buffers hold the first i stops.
 use mathlib.Core.Path.{◌≡◌, refl, ◌∙◌}
-use Prim.Native.Nat.{ℕ, ◌-◌}
+use Prim.Native.Nat.{ℕ}
 use native.Mathlib.Omega.{arith}
 use Rattle.stop.specs.Lent.{coords_of, speeds_of, blends_of, dwells_of}
 use Rattle.stop.specs.declared.Stop.{Stop}

@@ -1,5 +1,4 @@
 -- `path::judge_output` meets its contract.
-use mathlib.Core.Bool.{false}
 use borrow.Author.Tests.{le-leb, lt-leb}
 use Rattle.path.proofs.output.judge_output.Goals as goal
 

@@ -1,10 +1,7 @@
 -- `path::rewrite::loses_in` meets its contract: a version that is no older lacks nothing, and none of the stops before i loses a field.
 use mathlib.Core.Path.{◌≡◌, sym, ◌∙◌}
-use mathlib.Core.Bool.{false}
-use Prim.Native.Nat.{◌-◌}
 use native.Mathlib.Omega.{arith}
 use borrow.Author.Count.{below_none, below_more}
-use Rattle.path.specs.Written.{loses_field}
 use Rattle.path.proofs.PlaceLaws.{place-within}
 use Rattle.path.proofs.WriteLaws.{any_none, any_some, none-newer}
 use Rattle.path.proofs.rewrite.loses_in.Goals as goal

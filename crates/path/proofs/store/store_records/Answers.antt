@@ -1,10 +1,9 @@
 -- `path::store::store_records` meets its contract: after i turns the records of the first i stops are stored.
 use mathlib.Core.Path.{◌≡◌, refl, ◌∙◌}
-use Prim.Native.Nat.{◌+◌, ◌-◌, ◌*◌, ◌≤◌}
+use Prim.Native.Nat.{◌+◌, ◌*◌, ◌≤◌}
 use native.Mathlib.Numerals.{add-one}
 use native.Mathlib.Omega.{arith}
 use lib.ListN.{length}
-use Rattle.stop.specs.Lent.{stop_at}
 use Rattle.path.proofs.StoreLaws.{record-room, none-stored, next-stored}
 use Rattle.path.proofs.store.store_records.Goals as goal
 

@@ -1,11 +1,7 @@
 -- `path::write::loses_any` meets its contract: none of the stops before i loses a field.
 use mathlib.Core.Path.{◌≡◌, sym, ◌∙◌}
-use mathlib.Core.Bool.{false}
-use Prim.Native.Nat.{◌-◌}
 use native.Mathlib.Omega.{arith}
 use borrow.Author.Count.{below_none, below_more}
-use Rattle.stop.specs.Lent.{stop_at}
-use Rattle.path.specs.Written.{loses_field}
 use Rattle.path.proofs.WriteLaws.{any_none, any_some}
 use Rattle.path.proofs.write.loses_any.Goals as goal
 
