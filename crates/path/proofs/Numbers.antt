@@ -1,5 +1,5 @@
 -- A path that is not accepted is refused by a number of the table.
-use mathlib.Core.Bool.{◌&&◌, not}
+use mathlib.Core.Bool.{◌&&◌}
 use mathlib.Core.List.{List}
 use Prim.Native.Nat.{ℕ, zero, suc, ◌^◌}
 use native.Mathlib.Omega.{arith}
@@ -12,7 +12,7 @@ use Rattle.records.proofs.Numbers.{record-numbered}
 use Rattle.stop.specs.declared.Stop.{Stop}
 use Rattle.stop.specs.Stop.{judge_stop, in_range}
 use Rattle.path.specs.Path.{path, known_version, read_head, head_of, head_fields, stop_of, stop_then, end_of, read_body, read_on, read_path}
-use Rattle.path.specs.Written.{write_stops, loses_any, path_bytes}
+use Rattle.path.specs.Written.{write_stops}
 
 fields-numbered : (highest version k : ℕ) (rest : List ℕ) → Numbered (head_fields highest version k rest)
 unfolding head_fields
@@ -47,4 +47,4 @@ path-numbered bytes highest test t =
 pub written-numbered : (version k room : ℕ) (ss : List Stop) → Numbered (write_stops version k room ss)
 unfolding write_stops
 written-numbered version k room ss =
-    need-numbered (not (loses_any version ss)) 13 _ (omega arith) (omega arith) (need-numbered (leb (length (path_bytes version k ss)) room) 8 _ (omega arith) (omega arith) (given _))
+    search (arith, need-numbered, given)

@@ -36,7 +36,7 @@ pub overflow_add-at-4 : goal.overflow_add-at-4
 overflow_add-at-4 c = omega (arith, (size-range c.args.version).0)
 
 pub field_since-requires : goal.field_since-requires
-field_since-requires c h = omega (arith, size-blend _ h)
+field_since-requires c h = omega (arith, size-blend, size-dwell)
 
 pub overflow_add-at-5 : goal.overflow_add-at-5
 overflow_add-at-5 c = omega (arith, (size-range c.args.version).0)

@@ -3,6 +3,7 @@ use mathlib.Core.Path.{◌≡◌, refl, sym, ap, ◌∙◌}
 use mathlib.Core.Bool.{true}
 use mathlib.Core.List.{List}
 use Prim.Native.Nat.{ℕ}
+use native.Mathlib.Omega.{arith}
 use lib.ListN.{take, drop}
 use Rattle.base.specs.Outcome.{Outcome, number}
 use Rattle.records.specs.Field.{number_of}
@@ -43,7 +44,7 @@ returns-then-highest-version c =
     let fields : read_head c.args.bytes.now c.args.highest ≡ head_fields c.args.highest (number_of (take 2 (drop 4 c.args.bytes.now))) (number_of (take 2 (drop 6 c.args.bytes.now))) (drop 8 c.args.bytes.now) = head-fields _ _ highest-known (sym record-number ∙ c.if-refused-ne0.false) in
     let version-known : known_version c.field16-version.result ≡ true = sym c.known_version-2.ensures ∙ c.if-not-known_version-2.false in
     given _ _ _ _ _ _ fields c.field16-version.ensures c.field16-k.ensures
-    (fields-above _ _ _ _ version-known c.if-highest-version.true)
+    (fields-above _ _ _ _ version-known (omega (arith, c.if-highest-version.true)))
     c.no_head-then-highest-version.ensures
 
 pub returns-then-k-gt-MAX_K : goal.returns-then-k-gt-MAX_K
