@@ -1,12 +1,12 @@
 -- Laws of times of path bytes: of judged bytes they are the times between the stops that the bytes mean.
-use mathlib.Core.Path.{◌≡◌, refl, sym, ap, ap₂, ◌∙◌}
+use mathlib.Core.Path.{◌≡◌, refl, ap₂, ◌∙◌}
 use mathlib.Core.Bool.{Bool, true, false, cond, ◌&&◌}
 use mathlib.Core.List.{List}
 use Prim.Native.Nat.{ℕ, ◌+◌, ◌≤◌, ◌<◌}
 use native.Mathlib.Omega.{arith}
 use lib.Dec.{eqb}
 use borrow.Author.Tests.{lt-leb}
-use lib.ListN.{length, get_or}
+use lib.ListN.{length}
 use Rattle.base.specs.Refusal.{out_of_range}
 use Rattle.base.specs.Outcome.{gives, need, value}
 use Rattle.base.proofs.Lists.{get_or-tabulate}

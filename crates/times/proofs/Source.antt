@@ -13,7 +13,7 @@ use Rattle.stop.specs.Lent.{LentStops, stop_at, first_stops, all_in_range, Judge
 use Rattle.path.specs.Path.{stop_in, stops_in}
 use Rattle.times.specs.declared.column.FourStops.{FourStops}
 use Rattle.times.specs.declared.fill.Source.{Source}
-use Rattle.times.specs.Time.{time, time_between}
+use Rattle.times.specs.Time.{time}
 use Rattle.times.specs.Columns.{FourInRange, of_four, times_from}
 use Rattle.times.specs.Source.{stop_of, stops_of, Ready, AreFour}
 use Rattle.times.specs.Table.{entry_of, table_of}

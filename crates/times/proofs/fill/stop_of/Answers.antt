@@ -1,5 +1,4 @@
 -- `times::fill::stop_of` meets its contract: lent buffers have each of the n stops.
-use mathlib.Core.Bool.{true, false}
 use native.Mathlib.Omega.{arith}
 use Rattle.times.specs.Source.{stop_of}
 use Rattle.times.proofs.fill.stop_of.Goals as goal

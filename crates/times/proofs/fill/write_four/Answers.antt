@@ -1,7 +1,6 @@
 -- `times::fill::write_four` meets its contract. The invariant: the columns up to `to` are written in four rows, and the rest is as it was.
 use mathlib.Core.Path.{◌≡◌, refl, ◌∙◌}
-use mathlib.Core.Bool.{true}
-use Prim.Native.Nat.{ℕ, ◌+◌, ◌*◌, ◌-◌, ◌<◌}
+use Prim.Native.Nat.{ℕ, ◌+◌, ◌*◌, ◌<◌}
 use native.Mathlib.Omega.{arith}
 use borrow.Author.Rules.{rules}
 use Rattle.stop.specs.Lent.{LentStops, held_stops}

@@ -1,6 +1,6 @@
 -- `times::fill::write_rest` meets its contract. The invariant: if the rows up to `start` were written, those up to `from` are.
 use mathlib.Core.Path.{◌≡◌, refl, ◌∙◌}
-use Prim.Native.Nat.{ℕ, ◌-◌, ◌<◌}
+use Prim.Native.Nat.{ℕ, ◌<◌}
 use native.Mathlib.Omega.{arith}
 use borrow.Author.Rules.{rules}
 use Rattle.stop.specs.Lent.{held_stops}

@@ -1,5 +1,4 @@
 -- `times::moves::sum_first` meets its contract: place by place.
-use Prim.Native.Nat.{◌-◌}
 use mathlib.Core.Path.{refl}
 use native.Mathlib.Omega.{arith}
 use Rattle.times.proofs.Summing.{summed-none, summed-more, summed-all}
