@@ -1,7 +1,7 @@
 -- Rows several places on, and the weighings on the way: what they are for one, three and four places, and that they add up.
 use mathlib.Core.Path.{◌≡◌, refl, ap, ◌∙◌}
 use mathlib.Core.Bool.{Bool, true, false}
-use Prim.Native.Nat.{ℕ, zero, suc, ◌+◌, ◌*◌, ◌-◌, ◌%◌, ◌^◌, ◌≤◌, ◌<◌}
+use Prim.Native.Nat.{ℕ, zero, suc, ◌+◌, ◌*◌, ◌%◌, ◌^◌, ◌≤◌, ◌<◌}
 use native.Mathlib.Nat.{add-zero, add-suc, add_assoc, mul_comm, mul-le-mul}
 use native.Mathlib.Omega.{arith}
 use lib.Pow.{pow_mono}

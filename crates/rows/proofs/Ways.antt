@@ -11,7 +11,7 @@ use borrow.Author.Tests.{ltb-false}
 use lib.Dec.{ltb}
 use lib.ListN.{get_or}
 use lib.Pow.{pow_pos}
-use Rattle.walks.specs.Best.{Found, none, at, scan, first, step}
+use Rattle.walks.specs.Best.{Found, none, scan, first, step}
 use Rattle.walks.specs.Rows.{told, turn}
 use Rattle.tree.specs.Neighbour.{trail, may_follow}
 use Rattle.tree.specs.Block.{beside_of}

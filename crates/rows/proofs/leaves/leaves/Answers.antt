@@ -1,7 +1,7 @@
 -- `rows::leaves::leaves` meets its contract. The loop's invariant: the stops before i, a multiple of 4, have theirs in the odd row, the even row is
 -- as it was, and 4 candidates were weighed for each stop.
 use mathlib.Core.Logic.{inl}
-use Prim.Native.Nat.{◌+◌, ◌-◌, ◌≤◌}
+use Prim.Native.Nat.{◌+◌, ◌≤◌}
 use native.Mathlib.Omega.{arith}
 use Rattle.rows.proofs.Made.{made_none, made_some, made-four, made_all, made-few}
 use Rattle.rows.proofs.leaves.leaves.Goals as goal

@@ -1,5 +1,5 @@
 -- `rows::row::cheapest_four` meets its contract. The loop's invariant: for each of the four what is held is the best over the candidates before j.
-use Prim.Native.Nat.{◌+◌, ◌-◌, ◌^◌, ◌<◌}
+use Prim.Native.Nat.{◌+◌, ◌^◌, ◌<◌}
 use native.Mathlib.Omega.{arith}
 use Rattle.tree.specs.Block.{beside_of}
 use Rattle.rows.proofs.Table.{stops-of, read-holding}

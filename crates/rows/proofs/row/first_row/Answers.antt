@@ -1,6 +1,6 @@
 -- `rows::row::first_row` meets its contract. The loop's invariant: the stops before i are in the even row.
 use mathlib.Core.Path.{refl}
-use Prim.Native.Nat.{◌-◌, ◌<◌}
+use Prim.Native.Nat.{◌<◌}
 use native.Mathlib.Omega.{arith}
 use lib.ListN.{length}
 use Rattle.rows.proofs.Stores.{kept-none, kept_store, row-part, row-none, row_more}

@@ -1,7 +1,7 @@
 -- `rows::row::path_row` meets its contract. The loop's invariant: the stops before i, a multiple of 4, have theirs in the even row, the odd row is
 -- as it was, and 2^t candidates were weighed for each stop.
 use mathlib.Core.Logic.{inr}
-use Prim.Native.Nat.{◌+◌, ◌-◌, ◌^◌, ◌≤◌}
+use Prim.Native.Nat.{◌+◌, ◌^◌, ◌≤◌}
 use native.Mathlib.Omega.{arith}
 use Rattle.tree.specs.Block.{beside_of}
 use Rattle.rows.proofs.Made.{made_none, made_some, made-four, made_all, made-few}
