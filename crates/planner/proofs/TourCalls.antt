@@ -1,7 +1,7 @@
 -- M-104, of the calls: the lengths of a call of `tour`, and what holds of the order and the total that it returns.
-use mathlib.Core.Path.{◌≡◌, refl, sym, ap, ◌∙◌}
+use mathlib.Core.Path.{◌≡◌, refl, ap, ◌∙◌}
 use mathlib.Core.List.{List, [], ◌∷◌}
-use Prim.Native.Nat.{ℕ, ◌+◌, ◌*◌, ◌^◌, ◌≤◌, ◌<◌}
+use Prim.Native.Nat.{ℕ, ◌+◌, ◌^◌, ◌≤◌}
 use native.Mathlib.Omega.{arith}
 use lib.Dec.{leb}
 use lib.ListN.{length, take, replicate}
@@ -17,7 +17,7 @@ use Rattle.costs.specs.Costs.{closed_total}
 use Rattle.costs.proofs.Tour.{tour-shortest, tour-long, tour-one, tour-two, closed-above}
 use Rattle.planner.specs.declared.Planned.TheVariants as plain
 use Rattle.planner.specs.declared.Ordered.TheVariants.{Done}
-use Rattle.planner.specs.Plan.{Plan, plan_room, plan_order, cleared, OrderIsPlanned}
+use Rattle.planner.specs.Plan.{Plan, plan_room, plan_order, OrderIsPlanned}
 use Rattle.planner.specs.Places.{order_said, OrderIsWritten}
 use Rattle.planner.specs.Tour.{max_tour_k, tour_room, tour_plan, plan_tour, TourWritten}
 use Rattle.planner.proofs.Judged.{Fit, judged, when-planned, total-said}

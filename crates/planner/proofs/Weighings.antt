@@ -12,7 +12,7 @@ use Rattle.tree.proofs.Beside.{trail-join}
 use Rattle.rows.specs.Pass.{weighings, pass_weighings}
 use Rattle.rows.proofs.Along.{weighings-few, weighings-add, weighings-same}
 use Rattle.planner.specs.Method.{solve_weighings, plan_weighings}
-use Rattle.planner.specs.Weighings.{passes, pass_makes, makes, sum_over, plan_makes, foretold_weighings}
+use Rattle.planner.specs.Weighings.{passes, pass_makes, makes, sum_over, plan_makes}
 
 -- those of a pass
 pub pass-few : (m : ℕ) → m ≤ 10 → pass_weighings m ≤ 1073741824

@@ -1,6 +1,6 @@
 -- `planner::weighings_for` meets its contract: the shift loses no bit.
 use mathlib.Core.Path.{◌∙◌}
-use Prim.Native.Nat.{◌*◌, ◌-◌, ◌<◌}
+use Prim.Native.Nat.{◌*◌, ◌<◌}
 use native.Mathlib.Omega.{arith}
 use lib.Pow.{shl_exact}
 use Rattle.planner.specs.Weighings.{foretold_weighings}

@@ -1,7 +1,7 @@
 -- `planner::clear::zero_stops` meets its contract. The loop's invariant: the elements before i are 0, and the others as they were.
 use mathlib.Core.Path.{◌≡◌, refl, ◌∙◌}
 use mathlib.Core.List.{List, append-nil}
-use Prim.Native.Nat.{ℕ, ◌-◌}
+use Prim.Native.Nat.{ℕ}
 use native.Mathlib.Omega.{arith}
 use lib.ListN.{length, length-set}
 use lib.Seq.{drop-length}

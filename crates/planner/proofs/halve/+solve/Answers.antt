@@ -1,6 +1,6 @@
 -- `planner::halve::solve` meets its contract, and ends: m falls at each call.
 use mathlib.Core.Path.{◌≡◌, sym, ap, ◌∙◌}
-use Prim.Native.Nat.{◌+◌, ◌-◌, ◌<◌}
+use Prim.Native.Nat.{◌+◌, ◌<◌}
 use native.Mathlib.Omega.{arith}
 use Rattle.base.proofs.Size.{pow-le-1024}
 use Rattle.rows.specs.Pass.{AlignedBlock}
@@ -11,7 +11,6 @@ use Rattle.planner.specs.Method.{solve_weighings}
 use Rattle.planner.proofs.Halving.{halved-stops, first_found, second-found, solved-join, aligned_at, reached-at, solved-at}
 use Rattle.planner.proofs.Smallest.{solved-none, solved-two}
 use Rattle.planner.proofs.Weighings.{solve-few, solve-more, solve-one, solve-two}
-use Rattle.planner.proofs.halve.solve.Reads as solve
 use Rattle.planner.proofs.halve.+solve.Goals as goal
 
 pub returns-then-m-eq0 : goal.returns-then-m-eq0

@@ -1,5 +1,5 @@
 -- `planner::held_fork::level` meets its contract. The loop's invariant: `below` is the fork's number 2^(level+1) times, and a level less stays below n.
-use Prim.Native.Nat.{◌-◌, ◌<◌}
+use Prim.Native.Nat.{◌<◌}
 use native.Mathlib.Omega.{arith}
 use Rattle.planner.proofs.HeldForks.{level-first, level-next, level-small}
 use Rattle.planner.proofs.held_fork.level.Goals as goal

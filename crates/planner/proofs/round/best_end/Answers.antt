@@ -1,6 +1,5 @@
 -- `planner::round::best_end` meets its contract. The loop's invariant: the best of the last stops before this one is held.
 use mathlib.Core.Path.{refl, sym, ◌∙◌}
-use Prim.Native.Nat.{◌-◌}
 use native.Mathlib.Omega.{arith}
 use Rattle.planner.proofs.Tours.{tour-few, tour-pos, held_none, held_more, held_at}
 use Rattle.planner.proofs.round.best_end.Goals as goal
