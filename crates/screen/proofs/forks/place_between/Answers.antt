@@ -1,6 +1,6 @@
 -- `screen::forks::place_between` meets its contract: the place is not passed, and where its fork is found, it is the place.
 use mathlib.Core.Path.{sym, ◌∙◌}
-use Prim.Native.Nat.{◌-◌, ◌^◌, ◌<◌}
+use Prim.Native.Nat.{◌^◌, ◌<◌}
 use native.Mathlib.Omega.{arith}
 use Rattle.group_sums.proofs.Between.{between-pos, between-lt}
 use Rattle.screen.proofs.Order.{count, few, stop-lt, between-found, between-later}

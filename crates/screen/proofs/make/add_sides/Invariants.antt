@@ -1,5 +1,5 @@
 use mathlib.Core.Path.{◌≡◌}
-use Prim.Native.Nat.{◌-◌, ◌^◌}
+use Prim.Native.Nat.{◌^◌}
 use Rattle.times.specs.InPath.{time_in}
 use Rattle.orders.specs.Lent.{order_in}
 use Rattle.screen.specs.Local.{Summed}

@@ -1,6 +1,6 @@
 -- `screen::sums::sums_agree` meets its contract: the forks of the places passed add up.
 use mathlib.Core.Path.{sym, ◌∙◌}
-use Prim.Native.Nat.{◌-◌, ◌^◌, ◌<◌}
+use Prim.Native.Nat.{◌^◌, ◌<◌}
 use native.Mathlib.Omega.{arith}
 use lib.Pow.{pow_pos}
 use Rattle.orders.specs.Lent.{order_in}
