@@ -29,7 +29,7 @@ use Rattle.named.specs.Names.{names, used, start_of, under}
 use Rattle.named.specs.Calls.{Kept, room_for, keep_records, come_back, OrderIsKept, OrderComesBack}
 use Rattle.named.specs.Time.{Call, Calls, keeps, keeps-nothing, comes_back, exchanges, makes-sums, elsewhere, none, next}
 use Rattle.named.proofs.Paste.{paste-block, paste-other}
-use Rattle.named.proofs.Names.{Fits, room_fits, room-sound, fits-room, start_fits, under-is, keeping, keep-given, keep-judged, coming, Back, back-used, back-judged}
+use Rattle.named.proofs.Names.{Fits, room_fits, room-sound, fits-room, start_fits, under-is, keep-given, keep-judged, Back, back-used, back-judged}
 use Rattle.named.proofs.Keeping.{Passed, keep-by-bytes, back-by-bytes}
 
 -- a call that refused says so of what it comes to

@@ -1,7 +1,7 @@
 -- `named::store::clear_marks` meets its contract: the first i marks are 0, and the rest is as it was.
 use mathlib.Core.Path.{◌≡◌, ap, ◌∙◌}
 use mathlib.Core.List.{◌++◌}
-use Prim.Native.Nat.{ℕ, ◌-◌}
+use Prim.Native.Nat.{ℕ}
 use native.Mathlib.Omega.{arith}
 use lib.ListN.{length-set, drop, replicate}
 use borrow.Author.Fill.{fill_none, fill_more}

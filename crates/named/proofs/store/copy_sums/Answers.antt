@@ -1,6 +1,5 @@
 -- `named::store::copy_sums` meets its contract: i numbers are copied, and the rest is as it was.
 use mathlib.Core.Path.{◌≡◌, refl, ap, ◌∙◌}
-use Prim.Native.Nat.{◌-◌}
 use native.Mathlib.Omega.{arith}
 use lib.ListN.{length-set, drop}
 use lib.Seq.{paste, paste-zero}
