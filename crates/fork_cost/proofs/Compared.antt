@@ -15,7 +15,6 @@ use Rattle.orders.specs.Bits.{byte_count, bit_string}
 use Rattle.orders.proofs.Bits.{bit-string}
 use Rattle.tree.specs.Fork.{bit}
 use Rattle.tree.specs.Neighbour.{in_place}
-use Rattle.tree.specs.Total.{total}
 use Rattle.fork_cost.specs.declared.ForkCost.{ForkCost}
 use Rattle.fork_cost.specs.declared.plans.Both.{Both}
 use Rattle.fork_cost.specs.Cost.{Cost, dearer, tie, returned, opposite, last_apart, compared, cost_of, said}

@@ -1,6 +1,5 @@
 -- `fork_cost::plans::last_apart` meets its contract. The loop's invariant: `place` is the last one so far.
 use mathlib.Core.Path.{◌≡◌, refl, ap, ◌∙◌}
-use Prim.Native.Nat.{◌-◌}
 use native.Mathlib.Omega.{arith}
 use lib.ListN.{take, drop}
 use Rattle.fork_cost.specs.Cost.{last_apart}
