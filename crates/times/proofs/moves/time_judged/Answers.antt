@@ -23,7 +23,7 @@ pub returns-then-n-j : goal.returns-then-n-j
 returns-then-n-j c = to_none _ _ _ _ _ c.requires.0 c.if-n-i.false c.requires.1 c.if-n-j.true
 
 pub time-requires : goal.time-requires
-time-requires c = both-good c
+time-requires c = let both = both-good c in assumption (both.0, both.1)
 
 pub returns : goal.returns
 unfolding time_of

@@ -23,7 +23,9 @@ pub overflow_add-result : goal.overflow_add-result
 overflow_add-result c = record { fits = omega (arith, whole c.before) }
 
 pub returns-then-q-rest : goal.returns-then-q-rest
-returns-then-q-rest c = nearest-up _ _ c.requires.1 c.if-q-rest.true
+returns-then-q-rest c =
+    let small = mod-lt c.args.p c.requires.1 in
+    nearest-up _ _ c.requires.1 (omega (arith, small, c.if-q-rest.true))
 
 pub returns-else-q-rest : goal.returns-else-q-rest
-returns-else-q-rest c = nearest-down _ _ c.requires.1 c.if-q-rest.false
+returns-else-q-rest c = nearest-down _ _ c.requires.1 (omega (arith, c.if-q-rest.false))
