@@ -10,7 +10,7 @@ use Rattle.stop.specs.declared.Stop.{Stop}
 use Rattle.stop.specs.Lent.{LentStops, first_stops, over_stops}
 use Rattle.stop.proofs.Lent.{over_first}
 use Rattle.path.specs.declared.PathRead.TheVariants.{Read}
-use Rattle.path.specs.Path.{Path, path, read_path, any_size}
+use Rattle.path.specs.Path.{Path, path, any_size}
 use Rattle.path.specs.Reading.{Heading, heading, read_into, stop_room, said, PathIsRead}
 use Rattle.times.specs.Table.{entry_of, table_of}
 use Rattle.times.proofs.Table.{get_or-table, accepted, square-table, when-made, made-when}

@@ -7,8 +7,8 @@ use lib.ListN.{length, drop}
 use Rattle.base.specs.Outcome.{Outcome, gives}
 use Rattle.stop.specs.declared.Stop.{Stop}
 use Rattle.stop.specs.Lent.{all_in_range}
-use Rattle.path.specs.Path.{path, read_body, read_path}
-use Rattle.path.proofs.Inverse.{accepted-of, Accepted}
+use Rattle.path.specs.Path.{path, read_path}
+use Rattle.path.proofs.Inverse.{accepted-of}
 use Rattle.path.proofs.RoundTrip.{body-facts}
 
 -- 2^k stops in range

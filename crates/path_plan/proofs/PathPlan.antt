@@ -1,16 +1,15 @@
 -- The call for a path keeps its promise: the path's head, the lent lengths and the body decide, and after them the planner cannot refuse.
 use mathlib.Core.Path.{◌≡◌, refl, sym, ap, ◌∙◌}
 use mathlib.Core.List.{List}
-use Prim.Native.Nat.{ℕ, ◌*◌, ◌^◌}
+use Prim.Native.Nat.{ℕ, ◌^◌}
 use native.Mathlib.Omega.{arith}
 use lib.ListN.{length, take}
 use lib.Seq.{take_at}
-use Rattle.base.specs.Outcome.{Outcome, gives, refuses, giving, number, over, after}
-use borrow.Author.Tests.{le-leb, eq-eqb}
+use Rattle.base.specs.Outcome.{Outcome, gives, refuses, giving, number, over}
 use Rattle.base.proofs.Outcome.{refused, over-whole}
 use Rattle.stop.specs.declared.Stop.{Stop}
 use Rattle.path.specs.declared.Head.{Head}
-use Rattle.path.specs.Path.{Path, path, read_head, read_path, any_size, body_after_head, stops_in}
+use Rattle.path.specs.Path.{path, read_head, any_size, body_after_head, stops_in}
 use Rattle.path.specs.Reading.{head_given}
 use Rattle.path.proofs.JudgeLaws.{judged-test, judged-rest}
 use Rattle.times.specs.declared.TableMade.TheVariants as made
