@@ -11,7 +11,7 @@ use Rattle.base.specs.Outcome.{Outcome, gives, refuses, and_then, need, giving, 
 use Rattle.base.proofs.Outcome.{refused-giving, over-front}
 use Rattle.stop.specs.declared.Stop.{Stop}
 use Rattle.path.specs.Path.{path, read_path, body_after_head, stops_in}
-use Rattle.path.proofs.JudgeLaws.{JudgedBody, body-good}
+use Rattle.path.proofs.JudgeLaws.{body-good}
 use Rattle.times.specs.InPath.{time_in}
 use Rattle.times.specs.declared.MovesSummed.{MovesSummed}
 use Rattle.times.specs.declared.MovesSummed.TheVariants as summed-answer

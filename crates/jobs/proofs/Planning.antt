@@ -16,18 +16,17 @@ use Rattle.times.specs.declared.TableMade.TheVariants as made
 use Rattle.times.specs.Table.{entry_of, table_of, table_from, TableIsMade}
 use Rattle.times.specs.Table as times
 use Rattle.times.proofs.Table.{by-stops, accepted-path, square-table, when-made, made-when}
-use Rattle.tree.specs.Total.{entry, total}
+use Rattle.tree.specs.Total.{entry}
 use Rattle.tree.specs.Open.{wanted}
 use Rattle.tree.proofs.Open.{wanted-allowed, length-wanted, wanted-shortest}
 use Rattle.planner.specs.declared.Planned.{Planned}
 use Rattle.planner.specs.Plan.{plan_fits, plan_room, plan_order, OrderIsPlanned}
-use Rattle.orders.specs.Allowed.{is_allowed, forks_of}
-use Rattle.orders.specs.Bits.{bit_string}
+use Rattle.orders.specs.Allowed.{is_allowed}
 use Rattle.orders.proofs.Allowed.{is_allowed-iff}
 use Rattle.orders.proofs.Lent.{holds-order}
 use Rattle.order_file.specs.declared.FileWritten.{FileWritten}
-use Rattle.order_file.specs.declared.FileWritten.TheVariants.{Wrote, Refused}
-use Rattle.order_file.specs.File.{order_file, file_for, file_size}
+use Rattle.order_file.specs.declared.FileWritten.TheVariants.{Refused}
+use Rattle.order_file.specs.File.{file_for}
 use Rattle.order_file.specs.Write.{said, write_file, FileIsWritten}
 use Rattle.order_file.proofs.Calls.{Writes, write-gives}
 use Rattle.path_plan.specs.PathPlan.{wanted_order, wanted_total}

@@ -1,9 +1,9 @@
 -- Rewriting a path: after the head and the job's own test it is the rewriting of the stops.
-use mathlib.Core.Path.{◌≡◌, refl, sym, ap, ◌∙◌}
+use mathlib.Core.Path.{◌≡◌, sym, ap, ◌∙◌}
 use mathlib.Core.List.{List}
 use Prim.Native.Nat.{ℕ}
 use Rattle.base.specs.Refusal.{wrong_version}
-use Rattle.base.specs.Outcome.{Outcome, gives, refuses, need, and_then, giving}
+use Rattle.base.specs.Outcome.{Outcome, refuses, need, and_then, giving}
 use Rattle.base.proofs.Outcome.{giving-then}
 use Rattle.path.specs.Path.{Path, path, read_path, known_version, body_after_head}
 use Rattle.path.specs.Written.{write_stops, rewrite_after_head}

@@ -22,7 +22,7 @@ use Rattle.times.proofs.Table.{table-small}
 use Rattle.tree.specs.Total.{entry, total}
 use Rattle.tree.specs.Open.{wanted}
 use Rattle.tree.proofs.Open.{wanted-allowed, length-wanted, shortest-wanted}
-use Rattle.orders.specs.Allowed.{is_allowed, forks_of}
+use Rattle.orders.specs.Allowed.{forks_of}
 use Rattle.orders.specs.Bits.{bit_string}
 use Rattle.orders.proofs.Allowed.{is_allowed-iff}
 use Rattle.order_file.specs.File.{order_file, file_for, file_size}
@@ -31,10 +31,10 @@ use Rattle.order_file.proofs.Bytes.{length-file_for}
 use Rattle.order_file.proofs.RoundTrip.{file-good, total-fits}
 use Rattle.path_plan.specs.Calls.{AcceptedRun}
 use Rattle.path_plan.specs.Claim.{ShortestFor}
-use Rattle.path_plan.specs.PathPlan.{wanted_order, wanted_total}
+use Rattle.path_plan.specs.PathPlan.{wanted_order}
 use Rattle.path.proofs.Inverse.{read_same}
 use Rattle.path_plan.proofs.Meaning.{GoodPath, path-good}
-use Rattle.path_plan.proofs.Claim.{table-wanted, table-total, run-shortest}
+use Rattle.path_plan.proofs.Claim.{table-total, run-shortest}
 use Rattle.jobs.specs.Limit.{job_max_k, small_enough}
 use Rattle.jobs.specs.Plan.{plan_test, wanted_file, plan_file}
 use Rattle.jobs.specs.Check.{check_file}
