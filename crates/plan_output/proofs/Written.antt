@@ -11,7 +11,6 @@ use Rattle.base.proofs.Outcome.{length_over, over-front}
 use Rattle.records.specs.Put.{put}
 use Rattle.records.specs.Record.{record_bytes}
 use Rattle.records.proofs.FieldLaws.{length-bytes_of}
-use Rattle.path.specs.Path.{read_path}
 use Rattle.path.proofs.JudgeLaws.{path-tests}
 use Rattle.path.proofs.WrittenLaws.{put-over}
 use Rattle.order_file.specs.declared.FileWritten.{FileWritten}
