@@ -1,5 +1,5 @@
 -- Laws of the lines as they are put: the order of a set of forks in one byte, its total by a table, and one line after the other.
-use mathlib.Core.Path.{◌≡◌, refl, sym, ap, ap₂, ◌∙◌}
+use mathlib.Core.Path.{◌≡◌, sym, ap, ◌∙◌}
 use mathlib.Core.Bool.{true}
 use mathlib.Core.List.{List, [], ◌∷◌, ◌++◌, append_assoc, append-nil}
 use Prim.Native.Nat.{ℕ, zero, suc, ◌+◌, ◌*◌, ◌-◌, ◌%◌, ◌^◌, ◌≤◌, ◌<◌}
@@ -9,7 +9,6 @@ use native.Mathlib.Omega.{arith}
 use lib.ListN.{length, get_or, take, replicate, length-append}
 use lib.Pow.{pow_pos}
 use lib.Seq.{take_all}
-use Rattle.base.specs.Outcome.{over}
 use Rattle.base.specs.Size.{stop_count}
 use Rattle.base.proofs.Outcome.{over-front}
 use Rattle.base.proofs.Size.{stop_count-pow}

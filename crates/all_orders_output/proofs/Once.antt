@@ -1,11 +1,11 @@
 -- EACH ALLOWED ORDER IS PRINTED EXACTLY ONCE, WITH ITS TOTAL, BY INCREASING FORK BITS: said of the numbers that the printed bytes say.
-use mathlib.Core.Path.{◌≡◌, refl, sym, ap, subst, ◌∙◌}
+use mathlib.Core.Path.{◌≡◌, sym, ap, ◌∙◌}
 use mathlib.Core.List.{List, [], ◌∷◌}
-use Prim.Native.Nat.{ℕ, ◌*◌, ◌%◌, ◌^◌, ◌<◌}
+use Prim.Native.Nat.{ℕ, ◌*◌, ◌<◌}
 use native.Mathlib.Omega.{arith}
 use lib.ListN.{length, get_or}
 use Rattle.base.specs.Lists.{tabulate}
-use Rattle.base.specs.Outcome.{gives, giving}
+use Rattle.base.specs.Outcome.{gives}
 use Rattle.base.proofs.Lists.{length-tabulate, get_or-tabulate}
 use Rattle.path.specs.Path.{Path}
 use Rattle.times.specs.Table.{entry_of}
@@ -14,7 +14,7 @@ use Rattle.tree.specs.Total.{total}
 use Rattle.tree.proofs.Enumerate.{tried-set}
 use Rattle.orders.specs.Allowed.{set_count, forks_of}
 use Rattle.orders.proofs.Allowed.{Gives, gives_one, set_count-twice, forks_of-order_of}
-use Rattle.all_orders_output.specs.Text.{line_of, order_line, lines_of, all_orders}
+use Rattle.all_orders_output.specs.Text.{order_line, lines_of, all_orders}
 use Rattle.all_orders_output.specs.ReadBack.{lines_in}
 use Rattle.all_orders_output.specs.Output.{program_path, printed, output_for}
 use Rattle.all_orders_output.proofs.ReadBack.{read-lines}

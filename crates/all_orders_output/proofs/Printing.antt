@@ -1,29 +1,27 @@
 -- The output from what was put: the lines of all orders, or that of the refusal, over the front of zeros.
-use mathlib.Core.Path.{◌≡◌, refl, sym, ap, ◌∙◌}
+use mathlib.Core.Path.{◌≡◌, sym, ap, ◌∙◌}
 use mathlib.Core.List.{List}
 use Prim.Native.Nat.{ℕ, ◌*◌, ◌^◌, ◌≤◌, ◌<◌}
 use native.Mathlib.Nat.{zero-add}
 use native.Mathlib.Omega.{arith}
 use lib.Dec.{leb}
-use lib.ListN.{length, take, length-replicate}
+use lib.ListN.{length, length-replicate}
 use borrow.Author.Tests.{le-leb, lt-leb, leb-true}
 use Rattle.base.specs.Refusal.{wrong_k}
 use Rattle.base.specs.Outcome.{Outcome, gives, refuses, giving, number, over}
 use Rattle.base.proofs.Lists.{length-tabulate}
 use Rattle.base.proofs.Outcome.{passed, giving-giving, length_over, over-front, refused-giving}
-use Rattle.records.specs.Put.{put}
 use Rattle.records.proofs.PutLaws.{put_front}
 use Rattle.stop.specs.declared.Stop.{Stop}
-use Rattle.path.specs.Path.{Path, path, body_after_head, stop_in, stops_in}
+use Rattle.path.specs.Path.{path, body_after_head, stop_in, stops_in}
 use Rattle.times.specs.declared.TableMade.{TableMade}
 use Rattle.times.specs.declared.TableMade.TheVariants as made
-use Rattle.times.specs.Rows.{rows}
 use Rattle.times.specs.Table.{entry_of, table_of, table_from, TableIsMade}
 use Rattle.times.specs.Table as times
 use Rattle.times.proofs.Rows.{rows-cong}
 use Rattle.times.proofs.Table.{by-stops, accepted-path, square-table, when-made, made-when}
 use Rattle.tree.specs.Order.{order_of}
-use Rattle.tree.specs.Total.{entry, total}
+use Rattle.tree.specs.Total.{entry}
 use Rattle.tree.proofs.Diagonal.{total-same}
 use Rattle.orders.specs.Allowed.{set_count}
 use Rattle.path_plan.proofs.Claim.{table-times}

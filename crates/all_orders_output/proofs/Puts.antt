@@ -1,12 +1,11 @@
 -- Laws of texts that are put into a buffer one after the other.
-use mathlib.Core.Path.{◌≡◌, refl, sym, ap, ◌∙◌}
+use mathlib.Core.Path.{◌≡◌, sym, ap, ◌∙◌}
 use mathlib.Core.List.{List, [], ◌∷◌, ◌++◌, append_assoc}
-use Prim.Native.Nat.{ℕ, suc, ◌+◌, ◌≤◌, ◌<◌}
+use Prim.Native.Nat.{ℕ, suc, ◌+◌, ◌≤◌}
 use native.Mathlib.Nat.{add-zero}
 use native.Mathlib.Omega.{arith}
-use lib.ListN.{length, set, take, drop, get_or, length-append}
+use lib.ListN.{length, set, take, drop, length-append}
 use lib.Seq.{set_split}
-use Rattle.records.specs.Put.{put}
 use Rattle.records.proofs.PutLaws.{put-fits, put_two, put-none, length-put}
 use Rattle.all_orders_output.specs.Local.{IsPut}
 

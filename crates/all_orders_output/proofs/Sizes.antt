@@ -1,13 +1,10 @@
 -- How long a line is: why 28 bytes are enough for a line of up to 8 stops, and 3,584 for all of them.
-use mathlib.Core.Path.{◌≡◌, refl, ap, ◌∙◌}
-use mathlib.Core.Bool.{true}
-use mathlib.Core.List.{List, [], ◌∷◌, ◌++◌}
-use Prim.Native.Nat.{ℕ, zero, suc, ◌+◌, ◌*◌, ◌-◌, ◌^◌, ◌≤◌, ◌<◌, suc-le-suc, zero-le}
-use native.Mathlib.Nat.{suc-mul, zero-mul, mul-le-mul_right}
+use mathlib.Core.Path.{◌≡◌, refl}
+use mathlib.Core.List.{List, [], ◌∷◌}
+use Prim.Native.Nat.{ℕ, suc, ◌*◌, ◌-◌, ◌^◌, ◌≤◌, ◌<◌, suc-le-suc, zero-le}
 use native.Mathlib.Omega.{arith}
 use lib.ListN.{length, get_or, length-append}
-use lib.Pow.{pow_mono, pow_pos}
-use Rattle.tree.specs.Neighbour.{in_place}
+use lib.Pow.{pow_mono}
 use Rattle.tree.specs.Order.{order_of}
 use Rattle.tree.specs.Total.{total}
 use Rattle.tree.proofs.Link.{length-order_of, get_or-order_of}

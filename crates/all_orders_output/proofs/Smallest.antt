@@ -2,12 +2,10 @@
 use mathlib.Core.Path.{◌≡◌, refl, sym, ap, ◌∙◌}
 use mathlib.Core.List.{List, [], ◌∷◌}
 use Prim.Native.Nat.{ℕ, ◌^◌, ◌≤◌, ◌<◌}
-use native.Mathlib.Omega.{arith}
 use lib.ListN.{length, get_or, take}
 use Rattle.base.specs.Outcome.{gives}
 use Rattle.path.specs.Path.{Path, path, any_size}
 use Rattle.times.specs.Table.{entry_of}
-use Rattle.tree.specs.Order.{Allowed}
 use Rattle.tree.specs.Open.{Shortest}
 use Rattle.path_plan.specs.Calls.{AcceptedRun}
 use Rattle.path_plan.specs.Claim.{ShortestFor}
@@ -15,7 +13,7 @@ use Rattle.path_plan.proofs.Claim.{run-shortest}
 use Rattle.path.proofs.Inverse.{read_same}
 use Rattle.all_orders_output.specs.ReadBack.{lines_in}
 use Rattle.all_orders_output.specs.Output.{program_highest, few_enough, program_path, output_for}
-use Rattle.all_orders_output.proofs.Once.{AreAll, OnOneLine, prints-all}
+use Rattle.all_orders_output.proofs.Once.{AreAll, prints-all}
 
 -- a total that no line's is below, and the line that has it, with its order
 pub record Smallest (lines : List (List ℕ)) (c : ℕ) (o : List ℕ) : Type 0 where

@@ -1,7 +1,6 @@
 -- `all_orders_output::lines::put_lines` meets its contract: one line after the other, by increasing number of the set.
 use mathlib.Core.Path.{◌≡◌, ◌∙◌}
-use mathlib.Core.Bool.{true}
-use Prim.Native.Nat.{ℕ, ◌*◌, ◌-◌, ◌^◌, ◌<◌}
+use Prim.Native.Nat.{ℕ, ◌*◌, ◌^◌, ◌<◌}
 use native.Mathlib.Omega.{arith}
 use Rattle.base.proofs.Size.{stop_count-pow}
 use Rattle.tree.specs.Total.{entry}

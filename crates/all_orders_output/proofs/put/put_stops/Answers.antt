@@ -1,5 +1,4 @@
 -- `all_orders_output::put::put_stops` meets its contract: one stop after the other.
-use Prim.Native.Nat.{◌-◌}
 use Rattle.all_orders_output.proofs.Listing.{stops-none, stops-room, stops-next, stops-all}
 use Rattle.all_orders_output.proofs.Puts.{puts-length}
 use Rattle.all_orders_output.proofs.put.put_stops.Goals as goal
