@@ -11,7 +11,7 @@ for name in "$@"; do
         cp "crates/$name/out/lib$name.a" target/staticlib/
     else
         # a run leaves the program in out/
-        (cd "crates/$name" && rt run </dev/null) >"$log.run" 2>"$log" || { cat "$log"; exit 1; }
+        (cd "crates/$name" && rt run </dev/null) >"$log" 2>&1 || { cat "$log"; exit 1; }
         cp "crates/$name/out/$name" target/bin/
     fi
 done

@@ -402,7 +402,7 @@ fn all_orders_printed() {
     assert_eq!(seen.into_keys().collect::<Vec<u16>>(), [0, 1, 2, 3, 4, 5, 6, 7]);
 }
 
-/// The program's samples, and the one that `rt check` runs.
+/// The program's samples, and the one that `rt ci` runs.
 #[test]
 fn all_orders_samples() {
     let mut samples = vec![(file("crates/all_orders/stdin"), file("crates/all_orders/stdout"))];
