@@ -49,6 +49,12 @@ fn figures(time: f64) -> String {
     format!("{time:.places$}")
 }
 
+/// The name of the kit that proved and built the library: the first word of `rt version`.
+fn kit() -> String {
+    let said = std::process::Command::new("rt").arg("version").output().map(|o| o.stdout).unwrap_or_default();
+    String::from_utf8_lossy(&said).split_whitespace().next().unwrap_or("unknown").into()
+}
+
 /// The processor's name, as the system gives it.
 fn processor() -> String {
     let text = fs::read_to_string("/proc/cpuinfo").unwrap_or_default();
@@ -109,7 +115,7 @@ fn ratios(all: &[planners::Measured]) -> String {
 pub fn report(all: &[cases::Measured], mixed: &[planners::Measured], equal: &[planners::Measured]) -> String {
     let parts = [
         "# Benchmark".into(),
-        format!("Written by `make bench`. Processor: {}.", processor()),
+        format!("Written by `make bench`. Processor: {}. Rattle: {}.", processor(), kit()),
         HEAD.into(),
         "## The calls".into(),
         CALLS.into(),
