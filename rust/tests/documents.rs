@@ -161,9 +161,9 @@ fn sizes() {
 fn names_of_the_refusals() {
     let (text, code) = (text("docs/CALLS.md"), text("crates/base/src/lib.rt"));
     let lines = text.lines().skip_while(|line| !line.starts_with("| No. |")).skip(2).take_while(|line| line.starts_with('|'));
-    let said: Vec<String> = lines.map(|line| format!("pub const {}: u16 = {};", cells(line)[1].trim_matches('`'), cells(line)[0])).collect();
-    let constant = |line: &&str| line.starts_with("pub const") && line.contains(": u16 = ") && !line.contains(" MAX_K:");
-    let written: Vec<&str> = code.lines().filter(constant).collect();
+    let said: Vec<String> = lines.map(|line| format!("{} = {},", cells(line)[1].trim_matches('`'), cells(line)[0])).collect();
+    let variants = code.lines().skip_while(|line| *line != "pub enum Refusal {").skip(1).take_while(|line| *line != "}");
+    let written: Vec<&str> = variants.map(str::trim).filter(|line| !line.starts_with("//")).collect();
     assert_eq!(said.len(), 16);
     assert_eq!(said, written);
 }

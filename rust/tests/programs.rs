@@ -193,11 +193,11 @@ fn slower_and_raised() {
     planner_lines("raised", 4, due_of_two);
 }
 
-/// The bytes of the path that a function of a file below crates/ puts.
-fn path_of(file: &str, function: &str) -> Vec<u8> {
+/// The bytes of a path that a constant of a file below crates/ holds, by the word that names it there.
+fn path_of(file: &str, word: &str) -> Vec<u8> {
     let code = text(file);
-    let body = code.split(&format!("fn {function}(")).nth(1).expect("a function");
-    let literal = body.split('"').nth(1).expect("its bytes");
+    let rest = code.split(&format!("const {}: &[u8]", word.to_uppercase())).nth(1).expect("a constant");
+    let literal = rest.split('"').nth(1).expect("its bytes");
     literal.split("\\x").skip(1).map(|byte| u8::from_str_radix(byte, 16).expect("two hexadecimal digits")).collect()
 }
 
@@ -436,7 +436,7 @@ impl Week {
         let place = |i: usize| number(i) as usize;
         let Week { bytes, order, sums, marks, stops, kept } = self;
         match words[0] {
-            "path" => *self = Week { bytes: path_of("test_named/src/setting.rt", "begin"), order: [77; 5], sums: [77; 5], marks: [77; 9], stops: [77; 33], kept: [77; 33] },
+            "path" => *self = Week { bytes: path_of("test_named/src/setting.rt", "fifty"), order: [77; 5], sums: [77; 5], marks: [77; 9], stops: [77; 33], kept: [77; 33] },
             "order" => order[place(1)] = number(2) as u16,
             "value" => sums[place(1)] = number(2),
             "used" => marks[place(1)] = number(2) as u8,

@@ -7,6 +7,8 @@ use native.Mathlib.Nat.{pow-succ'}
 use native.Mathlib.Omega.{arith}
 use lib.ListN.{length, get_or, length-append, get_or-append}
 use borrow.Author.Tests.{lt-ltb, le-ltb}
+use Rattle.std.specs.Fmt as fmt
+use Rattle.std.proofs.lemmas.Fmt.{decimal_from_appends, length-decimal-le_succ}
 use Rattle.all_orders_output.specs.Decimal.{digit, digits, decimal}
 
 -- a number of one digit
@@ -41,6 +43,11 @@ pub decimal-more : (n : ℕ) → 10 ≤ n → decimal n ≡ decimal (n / 10) ++ 
 unfolding decimal
 decimal-more n h =
     digits_more n n h ∙ ap (λ (l : List ℕ). l ++ digit (n % 10) ∷ []) (enough n (suc (n / 10)) (n / 10) (omega arith) (omega arith))
+
+-- the library writes the same digits
+pub same-decimal : (n : ℕ) → n < 2 ^ 64 → fmt.decimal n ≡ decimal n
+unfolding decimal
+same-decimal n h = sym (decimal_from_appends digits (record { one = λ k m. digits-small k m; more = λ k m. digits_more k m }) (suc n) n h (omega (arith, length-decimal-le_succ n h)))
 
 -- a number below 10^(d + 1) has at most d + 1 digits
 pub length-decimal : (d n : ℕ) → n < 10 ^ suc d → length (decimal n) ≤ suc d

@@ -1,6 +1,6 @@
 -- Laws of the text of all orders and of the program's output.
 pub mod Decimal
-pub mod Puts
+pub mod Texts
 pub mod Sizes
 pub mod ReadBack
 pub mod Once

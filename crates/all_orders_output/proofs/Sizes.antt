@@ -1,10 +1,13 @@
 -- How long a line is: why 28 bytes are enough for a line of up to 8 stops, and 3,584 for all of them.
-use mathlib.Core.Path.{◌≡◌, refl}
+use mathlib.Core.Path.{◌≡◌, refl, ◌∙◌}
 use mathlib.Core.List.{List, [], ◌∷◌}
 use Prim.Native.Nat.{ℕ, suc, ◌*◌, ◌-◌, ◌^◌, ◌≤◌, ◌<◌, suc-le-suc, zero-le}
+use native.Mathlib.Nat.{le_trans, mul-le-mul_left, mul-le-mul_right}
 use native.Mathlib.Omega.{arith}
 use lib.ListN.{length, get_or, length-append}
 use lib.Pow.{pow_mono}
+use Rattle.base.specs.Size.{stop_count}
+use Rattle.base.proofs.Size.{stop_count-pow}
 use Rattle.tree.specs.Order.{order_of}
 use Rattle.tree.specs.Total.{total}
 use Rattle.tree.proofs.Link.{length-order_of, get_or-order_of}
@@ -20,6 +23,18 @@ use Rattle.all_orders_output.proofs.Decimal.{decimal-small, length-decimal}
 -- at most 8 stops, and 128 sets of forks
 pub pow-le-8 : (k : ℕ) → k ≤ print_max_k → 2 ^ k ≤ 8
 pow-le-8 k h = pow_mono {i = k} {j = 3} h
+
+-- the count of stops as the code has it
+pub record Few (k n : ℕ) : Type 0 where
+  pub stops : n ≡ 2 ^ k
+  pub eight : n ≤ 8
+  pub square : n * n ≤ 64
+
+pub few-stops : (k n : ℕ) → k ≤ print_max_k → n ≡ stop_count k → Few k n
+few-stops k n h e =
+    let stops : n ≡ 2 ^ k = e ∙ stop_count-pow k (omega (arith, h)) in
+    let eight : n ≤ 8 = rw stops (pow-le-8 k h) in
+    record { stops = stops; eight = eight; square = le_trans (mul-le-mul_left n eight) (mul-le-mul_right 8 eight) }
 
 pub sets-le-128 : (k : ℕ) → k ≤ print_max_k → set_count k ≤ 128
 sets-le-128 k h = pow_mono {i = 2 ^ k - 1} {j = 7} (omega (arith, pow-le-8 k h))

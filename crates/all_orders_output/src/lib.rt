@@ -6,15 +6,19 @@
 #![tactic(auto)]
 
 mod lines;
-mod put;
-mod text;
+mod output;
 
-ghost use Rattle.std.specs.Prelude.{◌≤◌, length};
-ghost use Rattle.all_orders_output.specs.Output.{output_for, longest_text, printed, print_max_k, IsOutput};
-ghost use Rattle.all_orders_output.specs.Local.{Puts, orders_after_head};
+ghost use Rattle.std.specs.Prelude.{◌≡◌, ◌≤◌};
+ghost use Rattle.base.specs.Outcome.{giving, said};
+ghost use Rattle.all_orders_output.specs.Output.{program_path, print_max_k, IsOutput};
+ghost use Rattle.all_orders_output.specs.Text.{all_orders};
+ghost use Rattle.all_orders_output.specs.Local.{text_of, orders_after_head};
 
-use base::{WRONG_K, stop_count};
-use path::judge_head;
+use base::{Refusal, stop_count};
+use lines::SmallTable;
+pub use output::{LONGEST_TEXT, Output};
+use path::{PathBytes, judge_head};
+use times::table_from;
 
 // The highest version that the program knows.
 pub const HIGHEST: u16 = 6;
@@ -22,53 +26,39 @@ pub const HIGHEST: u16 = 6;
 // The largest k.
 const PRINT_MAX_K: u16 = 3;
 
-// Room for the longest text: 128 lines of at most 28 bytes.
-pub const LONGEST_TEXT: usize = 3_584;
-
 // The bytes of the longest accepted path, and one more: what comes after them cannot change the output.
 pub const ENOUGH_INPUT: usize = 189;
 
-// The first `count` bytes are the output.
-#[derive(Clone, Copy)]
-pub struct Output {
-    pub bytes: [u8; LONGEST_TEXT],
-    pub count: usize,
+// All orders of a path whose head was judged, by the table of its stops, or the refusal of the stops.
+fn orders_of(path: PathBytes) -> Result<Output, Refusal>
+    requires { path.k ≤ print_max_k }
+    ensures { giving text_of (said result) ≡ orders_after_head path.entry.bytes.now path.entry.version path.entry.k }
+{
+    let n = stop_count(path.k);
+    let mut places = [0u32; 64];
+    let times = &mut places[..n * n];
+    table_from(path, times)?;
+    let table = SmallTable { k: path.k, times };
+    Ok(table.lines())
 }
 
-// Prints all orders of a path whose head gave `version` and `k`, or the refusal of its stops.
-fn put_body(out: &mut [u8], path: &[u8], version: u16, k: u16) -> usize
-    requires { (k ≤ print_max_k) × (longest_text ≤ length out.old) }
-    ensures { Puts out 0 (printed (orders_after_head path.now version k)) result }
+// All orders of path bytes, or their refusal.
+fn text_for(path: &[u8]) -> Result<Output, Refusal>
+    ensures { giving text_of (said result) ≡ giving all_orders (program_path path.now) }
 {
-    let n = stop_count(k);
-    let size = n * n;
-    let mut table = [0u32; 64];
-    text::put_orders(out, path, version, k, &mut table[..size])
-}
-
-// Prints all orders of path bytes, or the number of their refusal.
-fn put_output(out: &mut [u8], path: &[u8]) -> usize
-    requires { longest_text ≤ length out.old }
-    ensures { Puts out 0 (output_for path.now) result }
-{
-    let head = judge_head(path, HIGHEST);
-    let refused = head.refused;
-    let version = head.version;
-    let k = head.k;
-    if refused != 0 {
-        return text::put_refused(out, refused);
+    let opened = judge_head(path, HIGHEST)?;
+    if PRINT_MAX_K < opened.k {
+        return Err(Refusal::WrongK);
     }
-    if PRINT_MAX_K < k {
-        return text::put_refused(out, WRONG_K);
-    }
-    put_body(out, path, version, k)
+    orders_of(opened)
 }
 
 // The output for path bytes, of any length.
 pub fn output_for(path: &[u8]) -> Output
     ensures { IsOutput path.now result.bytes result.count }
 {
-    let mut bytes = [0u8; LONGEST_TEXT];
-    let count = put_output(&mut bytes, path);
-    Output { bytes, count }
+    match text_for(path) {
+        Ok(output) => output,
+        Err(refusal) => Output::refusal(refusal),
+    }
 }

@@ -1,7 +1,10 @@
 -- Every refusal has a number of the table in 'Turned down', so none can be taken for a success, whose number is 0.
 use mathlib.Core.Bool.{Bool, true, false}
 use Prim.Native.Nat.{ℕ, ◌≤◌}
-use Rattle.base.specs.Refusal.{last_number}
+use native.Mathlib.Omega.{arith}
+use Rattle.base.specs.declared.Refusal.{Refusal}
+use Rattle.base.specs.declared.Refusal.TheVariants.{Truncated, WrongLength, WrongKind, WrongVersion, WrongK, OutOfRange, TrailingBytes, WrongSize, NoSuchStop, NotAllowed, WrongTotal, WrongForks, LostField, NoSuchFork, NoSuchName, NothingKept}
+use Rattle.base.specs.Refusal.{last_number, refusal_number}
 use Rattle.base.specs.Outcome.{Outcome, gives, refuses, need, and_then, giving}
 
 -- a number of the table
@@ -26,3 +29,22 @@ then-numbered (refuses n) next (refusal m i) r = refusal n i
 pub giving-numbered : {A B : Type 0} (f : A → B) (o : Outcome A) → Numbered o → Numbered (giving f o)
 giving-numbered f (gives a) i = given (f a)
 giving-numbered f (refuses n) (refusal m i) = refusal n i
+
+-- a refusal of the code has such a number
+pub refusal_numbered : (r : Refusal) → IsNumber (refusal_number r)
+refusal_numbered Truncated = record { first = omega arith; last = omega arith }
+refusal_numbered WrongLength = record { first = omega arith; last = omega arith }
+refusal_numbered WrongKind = record { first = omega arith; last = omega arith }
+refusal_numbered WrongVersion = record { first = omega arith; last = omega arith }
+refusal_numbered WrongK = record { first = omega arith; last = omega arith }
+refusal_numbered OutOfRange = record { first = omega arith; last = omega arith }
+refusal_numbered TrailingBytes = record { first = omega arith; last = omega arith }
+refusal_numbered WrongSize = record { first = omega arith; last = omega arith }
+refusal_numbered NoSuchStop = record { first = omega arith; last = omega arith }
+refusal_numbered NotAllowed = record { first = omega arith; last = omega arith }
+refusal_numbered WrongTotal = record { first = omega arith; last = omega arith }
+refusal_numbered WrongForks = record { first = omega arith; last = omega arith }
+refusal_numbered LostField = record { first = omega arith; last = omega arith }
+refusal_numbered NoSuchFork = record { first = omega arith; last = omega arith }
+refusal_numbered NoSuchName = record { first = omega arith; last = omega arith }
+refusal_numbered NothingKept = record { first = omega arith; last = omega arith }

@@ -1,47 +1,54 @@
--- Laws of signed results.
-use mathlib.Core.Path.{◌≡◌, refl, sym, ap, ◌∙◌}
-use Prim.Native.Nat.{ℕ, ◌<◌, ◌^◌}
-use native.Mathlib.Omega.{arith}
-use lib.IntN.{ℤ, pos}
-use lib.Signed.{mag}
-use mir.Syntax.{w64}
-use mir.Val.{to_z, of_z}
-use Rattle.base.specs.Outcome.{Outcome}
-use Rattle.path.specs.Draw.{Draw, drawn, ended, draw_refused}
-use Rattle.reader.specs.declared.Drawn.{Drawn}
-use Rattle.reader.specs.Draws.{draw_answer, a_refusal}
-use Rattle.signed.specs.Result.{negative, signed}
-use Rattle.signed.proofs.Result.{value-given, handed-on}
-use Rattle.exports.specs.Exported.{Exported}
-use Rattle.exports.specs.Values.{itself, verdict}
+-- Laws of the exported draws.
+use mathlib.Core.Path.{◌≡◌, refl, ap, ◌∙◌}
+use mathlib.Core.Bool.{Bool, true, false, cond}
+use Prim.Native.Nat.{ℕ, zero, suc}
+use lib.Dec.{ltb, eqb}
+use lib.IntN.{pos}
+use Rattle.std.specs.Prelude.{Option, Some, None, Result, Ok, Err}
+use Rattle.std.specs.Result.{result_unwrap_or}
+use Rattle.base.specs.declared.Refusal.{Refusal}
+use Rattle.base.specs.Outcome.{said}
+use Rattle.stop.specs.declared.Stop.{Stop}
+use Rattle.stop.specs.Stop.{coordinate, zero_stop}
+use Rattle.path.specs.Draw.{Draw}
+use Rattle.reader.specs.Draws.{answered, draw_answer}
+use Rattle.signed.specs.Result.{itself, signed}
+use Rattle.exports.specs.Values.{verdict, drawn_verdict, field_of}
 
--- a result is handed on as it is
-pub handed : (z w : ℤ) → mag z < 2 ^ 63 → z ≡ w → to_z w64 (of_z w64 z) ≡ w
-handed z w f e = handed-on z f ∙ e
+-- a draw's verdict is what it answers
+pub drawn-verdict : (r : Result (Option Stop) Refusal) → signed drawn_verdict (said r) ≡ signed itself (verdict (answered r))
+unfolding signed verdict
+drawn-verdict (Ok (Some s)) = refl
+drawn-verdict (Ok None) = refl
+drawn-verdict (Err e) = refl
 
--- ---- answers
+-- every field of the stop of zeros is 0
+zero-place : (i : ℕ) → coordinate zero_stop i ≡ pos 0
+zero-place zero = refl
+zero-place (suc zero) = refl
+zero-place (suc (suc zero)) = refl
+zero-place (suc (suc (suc i))) = refl
 
-module _ {Answer A : Type 0} (said : Answer → Outcome A) (number : A → ℕ) where
-  -- an answer a that is b, as a signed number
-  pub as_said : (a b : Answer) → a ≡ b → (o : Outcome A) → said a ≡ o → (r : ℤ) → r ≡ signed number (said b) → r ≡ signed number o
-  as_said a b e o t r s = s ∙ ap (λ (x : Answer). signed number (said x)) (sym e) ∙ ap (signed number) t
+either : (b : Bool) → cond b (pos 0) (pos 0) ≡ pos 0
+either true = refl
+either false = refl
 
-  -- and what the call behind it promised of it
-  pub exported : (promised : Answer → Type 0) (a b : Answer) → promised a → a ≡ b → (r : ℤ) → r ≡ signed number (said b) → Exported promised (λ x. signed number (said x)) r
-  exported promised a b p e r s = record { answer = a; kept = p; result = as_said a b e (said a) refl r s }
+pub zero-field : (field : ℕ) → field_of field zero_stop ≡ pos 0
+unfolding field_of
+zero-field field = rw (zero-place field, either (eqb field 5), either (eqb field 4), either (eqb field 3), either (ltb field 3))
 
--- ---- draws
+-- the stop that was drawn, or the stop of zeros
+abbrev pub stop_or_zero : Option Stop → Stop
+stop_or_zero (Some s) = s
+stop_or_zero None = zero_stop
 
--- a draw's refusal, by its verdict
-pub drawn-refused : (x : Draw) (d : Drawn) → d ≡ draw_answer x → d.verdict ≡ a_refusal → negative d.number ≡ signed itself (verdict x)
-unfolding draw_answer verdict signed
-drawn-refused (drawn s) d e v = absurd (let z : ◌≡◌ {A = ℕ} 0 2 = sym (ap (λ (d : Drawn). d.verdict) e) ∙ v in omega arith)
-drawn-refused ended d e v = absurd (let z : ◌≡◌ {A = ℕ} 1 2 = sym (ap (λ (d : Drawn). d.verdict) e) ∙ v in omega arith)
-drawn-refused (draw_refused n) d e v = ap (λ (d : Drawn). negative d.number) e
-
--- any other draw is its verdict
-pub drawn-else : (x : Draw) (d : Drawn) → d ≡ draw_answer x → (d.verdict ≡ a_refusal → ⊥) → pos d.verdict ≡ signed itself (verdict x)
-unfolding draw_answer verdict signed
-drawn-else (drawn s) d e f = ap (λ (d : Drawn). pos d.verdict) e ∙ sym (value-given 0 (omega arith))
-drawn-else ended d e f = ap (λ (d : Drawn). pos d.verdict) e ∙ sym (value-given 1 (omega arith))
-drawn-else (draw_refused n) d e f = absurd (f (ap (λ (d : Drawn). d.verdict) e))
+-- its fields are those of what was drawn
+pub drawn-field : (field : ℕ) (r : Result (Option Stop) Refusal) (d : Draw) (o : Option Stop) → answered r ≡ d → o ≡ result_unwrap_or r None → field_of field (stop_or_zero o) ≡ field_of field (draw_answer d).stop
+unfolding draw_answer
+drawn-field field r d o e u =
+    ap (λ (x : Option Stop). field_of field (stop_or_zero x)) u ∙ ap (field_of field) (same r) ∙ ap (λ (x : Draw). field_of field (draw_answer x).stop) e
+  where
+    same : (r : Result (Option Stop) Refusal) → stop_or_zero (result_unwrap_or r None) ≡ (draw_answer (answered r)).stop
+    same (Ok (Some s)) = refl
+    same (Ok None) = refl
+    same (Err e) = refl

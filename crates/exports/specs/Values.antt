@@ -1,37 +1,42 @@
 -- The values that calls give, as one number each.
-use Rattle.std.specs.Prelude.{cond, ℕ, ◌+◌, ◌*◌, ltb, eqb, ℤ, pos}
+use Rattle.std.specs.Prelude.{cond, ℕ, ◌+◌, ◌*◌, ltb, eqb, ℤ, pos, Option, Some, None}
 use Rattle.base.specs.Outcome.{Outcome, gives, refuses}
+use Rattle.base.specs.Buffer.{SharedSigned, SharedUnsigned}
 use Rattle.stop.specs.declared.Stop.{Stop}
+use Rattle.stop.specs.declared.Stops.{Stops}
 use Rattle.stop.specs.Stop.{coordinate}
-use Rattle.path.specs.Reading.{Heading}
+use Rattle.path.specs.declared.Heading.{Heading}
+use Rattle.path.specs.declared.PathBytes.{PathBytes}
 use Rattle.path.specs.Draw.{Draw, drawn, ended, draw_refused}
-use Rattle.planner.specs.Weighings.{Needed}
-use Rattle.planner.specs.Plan.{Reported}
-use Rattle.path_plan.specs.PathPlan.{Planned}
+use Rattle.planner.specs.declared.Planned.{Planned}
+use Rattle.planner.specs.declared.Foretold.{Foretold}
+use Rattle.path_plan.specs.declared.PathPlanned.{PathPlanned}
+use Rattle.filled.specs.declared.ListPlanned.{ListPlanned}
 use Rattle.reader.specs.Draws.{a_stop, the_end}
-use Rattle.fork_cost.specs.Cost.{Reason, Cost, dearer, tie}
+use Rattle.fork_cost.specs.declared.ForkCost.{ForkCost}
+use Rattle.fork_cost.specs.Cost.{Reason, Cost, dearer, tie, told}
 use Rattle.signed.specs.Result.{at_most}
 
--- a call that gives nothing beside the lent buffers: 0
-abbrev pub nothing : Unit {0} → ℕ
-nothing u = 0
+-- the stops of four lent buffers that are only read
+abbrev pub lent_stops : SharedSigned → SharedUnsigned → SharedUnsigned → SharedUnsigned → Stops
+lent_stops coords speeds blends dwells = record { coords = coords.entry; speeds = speeds.entry; blends = blends.entry; dwells = dwells.entry }
 
--- a count of bytes, or a total
-abbrev pub itself : ℕ → ℕ
-itself n = n
+-- the bytes of a path, with the version and k that their head gave
+abbrev pub path_bytes : SharedUnsigned → (version k : ℕ) → PathBytes
+path_bytes bytes version k = record { bytes = bytes.entry; version = version; k = k }
 
 -- of a plan by a table: its total, and its weighings
-abbrev pub total_of : Reported → ℕ
-total_of r = r.total
+abbrev pub total_of : Planned → ℕ
+total_of p = p.total
 
-abbrev pub weighings_of : Reported → ℕ
-weighings_of r = r.weighings
+abbrev pub weighings_of : Planned → ℕ
+weighings_of p = p.weighings
 
 -- of what k foretells: the bytes, and the weighings
-abbrev pub bytes_needed : Needed → ℕ
+abbrev pub bytes_needed : Foretold → ℕ
 bytes_needed f = f.bytes
 
-abbrev pub weighings_needed : Needed → ℕ
+abbrev pub weighings_needed : Foretold → ℕ
 weighings_needed f = f.weighings
 
 -- ---- a version and k in one number, and a total above them
@@ -55,7 +60,7 @@ abbrev pub heading : Heading → ℕ
 heading h = packed 0 h.version h.k
 
 -- and of one that was planned
-abbrev pub planned : Planned → ℕ
+abbrev pub planned : PathPlanned → ℕ
 planned p = packed p.total p.version p.k
 
 -- ---- the length of a list, and its total above it
@@ -75,8 +80,8 @@ unfoldable pub listed : (total length : ℕ) → ℕ
 listed total length = at_most most_listed total * length_unit + at_most most_length length
 
 -- of a list that was planned
-abbrev pub list_value : ℕ × ℕ → ℕ
-list_value p = listed p.0 p.1
+abbrev pub list_value : ListPlanned → ℕ
+list_value p = listed p.total p.length
 
 -- ---- what a fork costs the other way, field by field
 
@@ -109,6 +114,10 @@ cost_part field state total more reason =
 abbrev pub cost_field : (field : ℕ) → Cost → ℕ
 cost_field field c = cost_part field c.state c.total c.more (reason_number c.reason)
 
+-- the same of an answer
+abbrev pub told_field : (field : ℕ) → ForkCost → ℕ
+told_field field c = cost_field field (told c)
+
 -- ---- draws
 
 -- the verdict of a draw: 0 a stop, 1 the end, or the refusal
@@ -116,6 +125,11 @@ unfoldable pub verdict : Draw → Outcome ℕ
 verdict (drawn s) = gives a_stop
 verdict ended = gives the_end
 verdict (draw_refused n) = refuses n
+
+-- the same of an answer that is no refusal
+abbrev pub drawn_verdict : Option Stop → ℕ
+drawn_verdict (Some s) = a_stop
+drawn_verdict None = the_end
 
 -- a field of a stop: 0 to 2 are x, y, z, 3 is the speed, 4 the blend, 5 the dwell, and any other is 0
 abbrev pub speed_field : ℕ

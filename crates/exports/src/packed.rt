@@ -2,9 +2,10 @@
 // a stop field by field.
 
 ghost use Rattle.std.specs.Prelude.{◌≡◌};
-ghost use Rattle.exports.specs.Values.{packed, listed, cost_part, field_of};
+ghost use Rattle.planner.specs.HeldFork.{state_of};
+ghost use Rattle.exports.specs.Values.{packed, listed, cost_part, told_field, field_of};
 
-use signed::at_most;
+use fork_cost::ForkCost;
 use stop::Stop;
 
 // What one of the version counts beside k, which has 16 bits, and what one of the total counts beside both.
@@ -22,70 +23,67 @@ const MOST_LENGTH: u64 = 127;
 
 const MOST_LISTED: u64 = 72_057_594_037_927_935;
 
-// The fields of what a fork costs.
-const STATE_FIELD: u16 = 0;
-
-const OPPOSITE_FIELD: u16 = 1;
-
-const MORE_FIELD: u16 = 2;
-
-const REASON_FIELD: u16 = 3;
-
-// The fields of a stop after x, y and z.
-const SPEED_FIELD: u16 = 3;
-
-const BLEND_FIELD: u16 = 4;
-
-const DWELL_FIELD: u16 = 5;
-
 // A version and k in one number, and a total above them.
+#[tactic(auto, unfolding(crate::specs::Values::packed), using(signed::proofs::AtMost::lesser))]
 pub fn pack(total: u64, version: u16, k: u16) -> u64
     ensures { result ≡ packed total version k }
 {
-    at_most(MOST_PACKED, total) * TOTAL_UNIT + (version as u64) * VERSION_UNIT + (k as u64)
+    total.min(MOST_PACKED) * TOTAL_UNIT + u64::from(version) * VERSION_UNIT + u64::from(k)
 }
 
 // The length of a list, and its total above it.
+#[tactic(auto, unfolding(crate::specs::Values::listed), using(signed::proofs::AtMost::lesser))]
 pub fn pack_list(total: u64, length: usize) -> u64
     ensures { result ≡ listed total length }
 {
-    at_most(MOST_LISTED, total) * LENGTH_UNIT + at_most(MOST_LENGTH, length as u64)
+    total.min(MOST_LISTED) * LENGTH_UNIT + (length as u64).min(MOST_LENGTH)
 }
 
-// A field of what a fork costs: 0 is its state, 1 the least total the other way, 2 how much more that is, 3 the reason, and any other is 0.
-pub fn cost_part(field: u16, state: u16, total: u64, more: u64, reason: u64) -> u64
-    ensures { result ≡ cost_part field state total more reason }
+// The part of what a fork costs that a field asks for: 0 is the fork's state, 1 the least total the other way, 2 how much more that is, 3 the reason, and any
+// other is 0. A caller in C hands any number: an enum of the fields would be matched twice.
+#[tactic(auto, unfolding(crate::specs::Values::cost_part))]
+fn cost_part(field: u16, exchanged: bool, total: u64, more: u64, reason: u64) -> u64
+    ensures { result ≡ cost_part field (state_of exchanged) total more reason }
 {
-    if field == STATE_FIELD {
-        return state as u64;
+    match field {
+        0 => u64::from(exchanged),
+        1 => total,
+        2 => more,
+        3 => reason,
+        _ => 0,
     }
-    if field == OPPOSITE_FIELD {
-        return total;
-    }
-    if field == MORE_FIELD {
-        return more;
-    }
-    if field == REASON_FIELD {
-        return reason;
-    }
-    0
 }
 
-// A field of a stop: 0 to 2 are x, y, z, 3 is the speed, 4 the blend, 5 the dwell, and any other is 0.
+// A field of what a fork costs.
+#[tactic(auto, unfolding(fork_cost::specs::Cost::told, crate::specs::Values::reason_number))]
+pub fn cost_field(cost: ForkCost, field: u16) -> u64
+    ensures { result ≡ told_field field cost }
+{
+    match cost {
+        ForkCost::Dearer {
+            exchanged,
+            total,
+            more,
+        } => cost_part(field, exchanged, total, more, 0),
+        ForkCost::Tie {
+            exchanged,
+            total,
+            place,
+        } => cost_part(field, exchanged, total, 0, u64::from(place) + 1),
+    }
+}
+
+// A field of a stop: 0 to 2 are x, y, z, 3 is the speed, 4 the blend, 5 the dwell, and any other is 0. A caller in C hands any number: an enum of the
+// fields would be matched twice.
+#[tactic(auto, unfolding(crate::specs::Values::field_of, stop::specs::Stop::coordinate))]
 pub fn stop_field(stop: Stop, field: u16) -> i64
     ensures { result ≡ field_of field stop }
 {
-    if field < SPEED_FIELD {
-        return stop.at[field as usize] as i64;
+    match field {
+        0..=2 => i64::from(stop.at[field as usize]),
+        3 => i64::from(stop.speed),
+        4 => i64::from(stop.blend),
+        5 => i64::from(stop.dwell),
+        _ => 0,
     }
-    if field == SPEED_FIELD {
-        return stop.speed as i64;
-    }
-    if field == BLEND_FIELD {
-        return stop.blend as i64;
-    }
-    if field == DWELL_FIELD {
-        return stop.dwell as i64;
-    }
-    0
 }

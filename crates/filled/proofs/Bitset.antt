@@ -1,20 +1,20 @@
 -- A set of stops as a number: bit i is stop i. Whether a group of stops has one that is in the set, how many are, and the set that bytes say.
 use mathlib.Core.Path.{◌≡◌, refl, sym, ap, ap₂, ◌∙◌, fun_ext}
-use mathlib.Core.Bool.{Bool, true, false, cond, ◌&&◌}
+use mathlib.Core.Bool.{Bool, true, false, cond}
 use mathlib.Core.Logic.{◌⊎◌, inl, inr}
 use Prim.Native.Nat.{ℕ, zero, suc, ◌+◌, ◌*◌, ◌-◌, ◌/◌, ◌%◌, ◌^◌, ◌≤◌, ◌<◌}
 use native.Mathlib.Nat.{pow-succ', mul_left_comm, one-mul, zero-mul, add-zero, zero-add}
 use native.Mathlib.Decide.{dec_lt}
 use native.Mathlib.Numerals.{add-one}
 use native.Mathlib.Omega.{arith}
-use borrow.Author.Tests.{eq-eqb, ne_eqb, eqb-true, lt-ltb, ltb-true}
+use borrow.Author.Tests.{eq-eqb, eqb-true, lt-ltb, ltb-true}
 use lib.Count.{ones, ones_step}
 use lib.Dec.{eqb, ltb}
 use lib.Pow.{mod-pow-add, shr-shr}
 use Rattle.tree.specs.Block.{beside_of}
 use Rattle.tree.specs.Fork.{bit}
 use Rattle.tree.proofs.Beside.{parity}
-use Rattle.tree.proofs.Bit.{bit-zero, bit-suc, shr-half, num_of, bit-num_of, num_of-lt, bit-ext}
+use Rattle.tree.proofs.Bit.{bit-zero, bit-suc, num_of, bit-num_of, num_of-lt, bit-ext}
 use Rattle.tree.proofs.Block.{beside-block}
 use Rattle.orders.proofs.Bits.{bit_past}
 use Rattle.filled.specs.Forks.{filled_below, above}
@@ -45,19 +45,6 @@ some-low (suc d) X zero b e = omega (arith, low_step X d, bit-zero X)
 some-low (suc d) X (suc j) b e = omega (arith, low_step X d, some-low d (X / 2) j (omega arith) (sym (bit-suc X j) ∙ e))
 
 -- ---- groups
-
--- two neighbours
-pub both_bits : (F i : ℕ) → eqb (F / 2 ^ i % 4) 3 ≡ (in_set F i && in_set F (i + 1))
-unfolding in_set
-both_bits F i = rw (add-one i, ← shr-half F i) (go (parity X) (parity (X / 2)))
-  where
-    X : ℕ
-    X = F / 2 ^ i
-
-    go : (X % 2 ≡ 0) ⊎ (X % 2 ≡ 1) → (X / 2 % 2 ≡ 0) ⊎ (X / 2 % 2 ≡ 1) → eqb (X % 4) 3 ≡ (eqb (X % 2) 1 && eqb (X / 2 % 2) 1)
-    go (inl a) q = rw a (ne_eqb (X % 4) 3 (λ e. absurd (omega (arith, low_step X 1))))
-    go (inr a) (inl b) = rw (a, b) (ne_eqb (X % 4) 3 (λ e. absurd (omega (arith, low_step X 1))))
-    go (inr a) (inr b) = rw (a, b) (eq-eqb (X % 4) 3 (omega (arith, low_step X 1)))
 
 -- the group beside a stop
 pub group-bits : (k F m i : ℕ) → m < k → i < 2 ^ k → ltb 0 (F / 2 ^ beside_of i m % 2 ^ 2 ^ m) ≡ filled_below k (in_set F) m (sibling k m i)

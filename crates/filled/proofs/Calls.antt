@@ -3,6 +3,7 @@ use mathlib.Core.Path.{◌≡◌, refl, sym, ap, ◌∙◌}
 use mathlib.Core.Bool.{Bool, true, false}
 use mathlib.Core.List.{List, []}
 use mathlib.Core.Logic.{◌≢◌}
+use Rattle.std.specs.Prelude.{Ok}
 use Prim.Native.Nat.{ℕ, zero, suc, ◌^◌, ◌≤◌, ◌<◌}
 use native.Mathlib.Omega.{arith}
 use lib.ListN.{length, get_or}
@@ -13,8 +14,8 @@ use Rattle.tree.specs.Open.{wanted}
 use Rattle.tree.proofs.Open.{length-wanted}
 use Rattle.orders.specs.Allowed.{forks_of}
 use Rattle.orders.specs.Bits.{bit_string}
-use Rattle.filled.specs.declared.ListPlanned.TheVariants.{Done}
-use Rattle.filled.specs.Filled.{bytes_in, filled_in, flags, ListPlan, wanted_plan, list_room, plan_list, said, ListIsPlanned}
+use Rattle.filled.specs.declared.ListPlanned.{ListPlanned}
+use Rattle.filled.specs.Filled.{bytes_in, filled_in, flags, ListPlan, wanted_plan, list_room, plan_list, answer_of, ListIsPlanned}
 use Rattle.filled.specs.Forks.{list_forks}
 use Rattle.filled.specs.Lists.{list_of, wanted_list}
 use Rattle.filled.specs.Moves.{moves_forks}
@@ -52,7 +53,7 @@ zero-or-one (suc zero) h f = absurd (f refl)
 zero-or-one (suc (suc b)) h f = absurd (omega arith)
 
 module _ (k : ℕ) (table empties list bits work list' bits' work' : List ℕ) (c count : ℕ)
-    (p : ListIsPlanned k table empties (plan_list k table empties (length list) (length bits) (length work)) list bits work list' bits' work' (Done c count)) where
+    (p : ListIsPlanned k table empties (plan_list k table empties (length list) (length bits) (length work)) list bits work list' bits' work' (Ok (record { total = c; length = count }))) where
   -- the filled stops, and the times
   abbrev s : ℕ → Bool
   s = filled_in (bytes_in k empties)
@@ -63,22 +64,20 @@ module _ (k : ℕ) (table empties list bits work list' bits' work' : List ℕ) (
   -- an accepting call's lengths fit, its bytes are 0 or 1, and its plan is the wanted one
   pub when-planned : Fit k (length table) empties (length list) (length bits) (length work) × (flags (bytes_in k empties) ≡ true)
       × (plan_list k table empties (length list) (length bits) (length work) ≡ gives (wanted_plan k s t))
-  unfolding said
   when-planned =
       let room : Outcome Unit = list_room k (length table) empties (length list) (length bits) (length work) in
       let o : Outcome ListPlan = giving (λ u. wanted_plan k s t) room in
-      let z : 0 ≡ number room = ap number p.said ∙ number-giving (λ q. (q.total, length q.list)) o ∙ number-giving (λ u. wanted_plan k s t) room in
+      let z : 0 ≡ number room = ap number p.said ∙ number-giving answer_of o ∙ number-giving (λ u. wanted_plan k s t) room in
       let j = judged k (length table) empties (length list) (length bits) (length work) (sym z) in
       (j.0, j.1, ap (giving (λ u. wanted_plan k s t)) j.2)
 
   -- what it says and leaves
   pub leaves : (q : ListPlan) → wanted_plan k s t ≡ q → (c ≡ q.total) × (count ≡ length q.list) × (list' ≡ over q.list list) × (bits' ≡ over (bit_string k q.forks) bits)
-  unfolding said
   leaves q e =
       let o : plan_list k table empties (length list) (length bits) (length work) ≡ gives q = when-planned.2 ∙ ap gives e in
-      let a : ◌≡◌ {A = Outcome (ℕ × ℕ)} (gives (c, count)) (gives (q.total, length q.list)) = p.said ∙ rw o in
-      let b : ◌≡◌ {A = ℕ × ℕ} (c, count) (q.total, length q.list) = cc in
-      (ap (λ (x : ℕ × ℕ). x.0) b, ap (λ (x : ℕ × ℕ). x.1) b, p.wrote ∙ rw o, p.marked ∙ rw o)
+      let a : ◌≡◌ {A = Outcome ListPlanned} (gives (record { total = c; length = count })) (gives (answer_of q)) = p.said ∙ rw o in
+      let b : ◌≡◌ {A = ListPlanned} (record { total = c; length = count }) (answer_of q) = cc in
+      (ap (λ (x : ListPlanned). x.total) b, ap (λ (x : ListPlanned). x.length) b, p.wrote ∙ rw o, p.marked ∙ rw o)
 
   -- AS MANY STOPS AS ARE FILLED
   pub counted : count ≡ count_in s 0 (2 ^ k)

@@ -1,16 +1,17 @@
 -- The bytes that say which stops are filled.
 use mathlib.Core.Path.{◌≡◌, refl, sym, ap, ◌∙◌}
-use mathlib.Core.Bool.{Bool, true, false, cond}
-use mathlib.Core.List.{List, [], ◌∷◌, ◌++◌}
+use mathlib.Core.Bool.{Bool, true, false, cond, ◌&&◌}
+use mathlib.Core.List.{List, [], ◌∷◌}
 use Prim.Native.Nat.{ℕ, zero, suc, ◌+◌, ◌*◌, ◌%◌, ◌^◌, ◌≤◌, ◌<◌}
 use native.Mathlib.Nat.{one-mul, pow-succ'}
 use native.Mathlib.Numerals.{add-one}
 use native.Mathlib.Omega.{arith}
-use borrow.Author.Tests.{le-leb, leb-true, eq-eqb, ne_eqb}
+use borrow.Author.Tests.{leb-true, eq-eqb, ne_eqb}
 use lib.Dec.{leb}
 use lib.ListN.{length, get_or, take, get_or-eq_default}
 use lib.Pow.{pow_mono, shl_exact}
-use lib.Seq.{take-suc, get_or-take, length-take-le}
+use lib.Seq.{get_or-take, length-take-le}
+use Rattle.std.specs.List.{list_all}
 use Rattle.base.proofs.Bools.{both}
 use Rattle.tree.proofs.Bit.{num_of, num_of-lt}
 use Rattle.filled.specs.Filled.{filled_in, flags}
@@ -18,11 +19,6 @@ use Rattle.filled.specs.Row.{in_set, set_of}
 use Rattle.filled.proofs.Bitset.{digit, set_more, set_is}
 
 -- ---- bytes that are 0 or 1
-
-flags-append : (x y : List ℕ) → flags x ≡ true → flags y ≡ true → flags (x ++ y) ≡ true
-unfolding flags
-flags-append [] y p q = q
-flags-append (b ∷ x) y p q = let r = both (leb b 1) (flags x) p in rw r.0 (flags-append x y r.1 q)
 
 flags-all : (bytes : List ℕ) → flags bytes ≡ true → (i : ℕ) → i < length bytes → get_or bytes i 0 ≤ 1
 unfolding flags
@@ -33,23 +29,11 @@ flags-all (a ∷ bytes) h (suc i) b = flags-all bytes (both (leb a 1) (flags byt
 pub flags-each : (bytes : List ℕ) (n : ℕ) → n ≤ length bytes → flags (take n bytes) ≡ true → (i : ℕ) → i < n → get_or bytes i 0 ≤ 1
 flags-each bytes n l e i b = omega (arith, flags-all (take n bytes) e i (omega (arith, length-take-le n bytes l)), get_or-take n bytes i 0 b)
 
--- none is looked at at first
-pub flags-none : (bytes : List ℕ) → flags (take 0 bytes) ≡ true
+-- the library's test of each byte
+pub flags-are : (bytes : List ℕ) → list_all (λ b. leb b 1) bytes ≡ flags bytes
 unfolding flags
-flags-none bytes = refl
-
--- one byte more
-pub flags-more : (bytes : List ℕ) (i : ℕ) → i < length bytes → flags (take i bytes) ≡ true → get_or bytes i 0 ≤ 1 → flags (take (i + 1) bytes) ≡ true
-unfolding flags
-flags-more bytes i b h e = rw (add-one i, take-suc bytes i 0 b) (flags-append (take i bytes) (get_or bytes i 0 ∷ []) h (rw (le-leb (get_or bytes i 0) 1 e)))
-
--- a byte of another value
-pub flags-not : (bytes : List ℕ) (n i : ℕ) → n ≤ length bytes → i < n → 1 < get_or bytes i 0 → false ≡ flags (take n bytes)
-flags-not bytes n i l b h = go (flags (take n bytes)) refl
-  where
-    go : (t : Bool) → flags (take n bytes) ≡ t → false ≡ t
-    go false e = refl
-    go true e = absurd (omega (arith, flags-each bytes n l e i b))
+flags-are [] = refl
+flags-are (b ∷ bytes) = ap (λ x. leb b 1 && x) (flags-are bytes)
 
 -- ---- the set of the filled stops
 
@@ -98,10 +82,9 @@ pub set-none : (s : ℕ → Bool) → 0 ≡ set_of s 0
 unfolding set_of
 set-none s = refl
 
-pub set_next : (bytes : List ℕ) (n i set r : ℕ) → i < n → set ≡ set_of (filled_in (take n bytes)) i → r ≡ set + cond (filled_in bytes i) (2 ^ i) 0
-    → r ≡ set_of (filled_in (take n bytes)) (i + 1)
+pub set_next : (bytes : List ℕ) (i set r : ℕ) → set ≡ set_of (filled_in bytes) i → r ≡ set + cond (filled_in bytes i) (2 ^ i) 0 → r ≡ set_of (filled_in bytes) (i + 1)
 unfolding set_of
-set_next bytes n i set r b e f = f ∙ rw (add-one i, e, filled-take bytes n i b)
+set_next bytes i set r e f = f ∙ rw (add-one i, e)
 
 -- IT HOLDS EXACTLY THE FILLED STOPS
 pub set-filled : (bytes : List ℕ) (n : ℕ) → n ≤ length bytes → in_set (set_of (filled_in (take n bytes)) n) ≡ filled_in (take n bytes)

@@ -2,19 +2,18 @@
 use mathlib.Core.Path.{◌≡◌, sym, ap, ◌∙◌}
 use mathlib.Core.Bool.{Bool, true, cond}
 use mathlib.Core.List.{List}
-use Prim.Native.Nat.{ℕ, suc, ◌+◌, ◌*◌, ◌-◌, ◌^◌, ◌≤◌, ◌<◌}
+use Prim.Native.Nat.{ℕ, suc, ◌+◌, ◌*◌, ◌^◌, ◌≤◌, ◌<◌}
 use native.Mathlib.Nat.{mul-le-mul_right, suc-mul}
 use native.Mathlib.Numerals.{add-one}
 use native.Mathlib.Omega.{arith}
 use borrow.Author.Tests.{le-leb, lt-leb}
 use lib.Dec.{leb}
-use lib.ListN.{get_or}
 use Rattle.tree.specs.Block.{beside_of}
 use Rattle.tree.specs.Neighbour.{trail}
 use Rattle.walks.specs.Rows.{turn, loop}
 use Rattle.walks.proofs.Numbers.{loop-skip}
 use Rattle.filled.specs.declared.tray.Tray.{Tray}
-use Rattle.filled.specs.Row.{unreached, standing, through, least_in, from_group}
+use Rattle.filled.specs.Row.{unreached, through, least_in, from_group}
 
 -- ---- the least
 
@@ -29,18 +28,11 @@ pub least_more : (x : ℕ → ℕ) (first j : ℕ) (held : ℕ × ℕ) → first
 unfolding loop
 least_more x first j held b e = rw (add-one j, le-leb first j b, e)
 
--- one candidate more, whose time stands at `at`
-pub least-through : (n : ℕ) (table work : List ℕ) (row to first j at : ℕ) (held r : ℕ × ℕ) → at ≡ j * n + to → first ≤ j
-    → held ≡ loop unreached (leb first) (through n table work row to) (λ j. j) j → r ≡ turn true (standing work row j + get_or table at 0) j held
-    → r ≡ loop unreached (leb first) (through n table work row to) (λ j. j) (j + 1)
-least-through n table work row to first j at held r e b h g =
-    g ∙ ap (λ (i : ℕ). turn true (standing work row j + get_or table i 0) j held) e ∙ least_more (through n table work row to) first j held b h
-
 -- what is held for a group, by its numbers as code has them
-pub least-group : (tray : Tray) (table work : List ℕ) (p i to first size : ℕ) (held : ℕ × ℕ) → held ≡ least_in (through tray.n table work ((p - 1) * tray.n) to) first size
-    → first ≡ beside_of i (trail p) → size ≡ 2 ^ trail p → held ≡ from_group tray table work p i to
+pub least-group : (tray : Tray) (row : List ℕ) (p i to first size : ℕ) (held : ℕ × ℕ) → held ≡ least_in (through tray row to) first size → first ≡ beside_of i (trail p) → size ≡ 2 ^ trail p
+    → held ≡ from_group tray row p i to
 unfolding from_group
-least-group tray table work p i to first size held e a b = rw (← a, ← b) e
+least-group tray row p i to first size held e a b = rw (← a, ← b) e
 
 -- the total of what is held, where a test holds
 pub held-total : (b : Bool) (r total stop : ℕ) (held : ℕ × ℕ) → r ≡ cond b total unreached → (total, stop) ≡ held → r ≡ cond b held.0 unreached
@@ -48,11 +40,7 @@ held-total b r total stop held e f = e ∙ ap (λ (q : ℕ × ℕ). cond b q.0 u
 
 -- ---- the square
 
--- an entry of two stops is within n² entries
-pub in-square : (n a b : ℕ) → a < n → b < n → a * n + b < n * n
-in-square n a b h l = let r : suc a * n ≤ n * n = mul-le-mul_right n h in omega (arith, suc-mul a n)
-
--- a row is
+-- a row is within n² entries
 pub row-square : (n a : ℕ) → a < n → a * n + n ≤ n * n
 row-square n a h = let r : suc a * n ≤ n * n = mul-le-mul_right n h in omega (arith, suc-mul a n)
 

@@ -12,9 +12,11 @@ use borrow.Author.Tests.{eq-eqb, eqb-true, lt-ltb, le-ltb}
 use lib.Bits.{bit_or, bit_xor, xor_lt, or_zero_l, or_zero_r}
 use lib.Count.{count_leading_zeros, leading_le, leading_top}
 use lib.Dec.{eqb, ltb}
+use lib.ListN.{length, drop}
 use lib.Pow.{pow_pos, pow_mono, shr_mono, shl_exact}
 use Rattle.base.proofs.Bools.{both}
 use Rattle.tree.specs.Fork.{bit, side}
+use Rattle.tree.specs.Neighbour.{in_place}
 use Rattle.tree.proofs.Beside.{Beside}
 use Rattle.tree.proofs.Block.{block_of}
 use Rattle.tree.proofs.Xor.{same-of-xor-lt, beside-xor}
@@ -220,6 +222,13 @@ moves_more k o (suc p) forks a b r h x y e f =
     let z : suc p - 1 ≡ p = omega arith in
     let s : suc p + 1 ≡ suc (suc p) = omega arith in
     rw (s, ← y) (f ∙ rw (e, x, z))
+
+-- the windows of a list before the first: the stops up to the first have no move
+pub moves-begin : (k : ℕ) (list rest : List ℕ) (size : ℕ) → size ≡ 2 → rest ≡ list
+    → (size ≡ 2) × (length rest ≤ length list) × (0 < length list → 0 < length rest) × (rest ≡ drop (length list - length rest) list) × (0 ≡ moves_forks k (stops_to (in_place list) (length list - length rest + 1)))
+moves-begin k list rest size e f =
+    let z : length list - length rest ≡ 0 = rw f (omega arith) in
+    (e, rw f (omega arith), λ h. rw f h, rw z f, rw z (moves-none k (in_place list)))
 
 -- a list of no stops has no moves either
 pub moves-end : (k : ℕ) (o : ℕ → ℕ) (p count forks : ℕ) → count ≤ p → (0 < count → p ≤ count) → (count ≡ 0 → p ≡ 1) → forks ≡ moves_forks k (stops_to o p)

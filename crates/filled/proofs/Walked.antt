@@ -3,7 +3,7 @@
 use mathlib.Core.Path.{◌≡◌, refl, sym, ap, subst, ◌∙◌}
 use mathlib.Core.Bool.{Bool, true}
 use mathlib.Core.List.{List, [], ◌∷◌, ◌++◌, append_assoc}
-use Prim.Native.Nat.{ℕ, zero, suc, ◌+◌, ◌*◌, ◌-◌, ◌^◌, ◌≤◌, ◌<◌}
+use Prim.Native.Nat.{ℕ, zero, suc, ◌+◌, ◌-◌, ◌^◌, ◌≤◌, ◌<◌}
 use native.Mathlib.Decide.{dec_lt, ℕ_discrete}
 use native.Mathlib.Omega.{arith}
 use lib.Count.{ones}
@@ -23,13 +23,13 @@ use Rattle.walks.proofs.Best.{scan-back}
 use Rattle.filled.specs.declared.tray.Tray.{Tray}
 use Rattle.filled.specs.Forks.{filled_below, above}
 use Rattle.filled.specs.Lists.{wanted_list}
-use Rattle.filled.specs.Row.{filled_of, times_of, cell_of, total_in, standing, least_in, Ready, RowsMade}
+use Rattle.filled.specs.Row.{filled_of, times_of, cell_of, total_in, standing, least_in, RowIsMade}
 use Rattle.filled.specs.Table.{beside_filled, table_at, last_row}
 use Rattle.filled.specs.Walk.{wanted_of, count_of, Reached, Walking}
 use Rattle.filled.proofs.Arranged.{All, all_map, Arranged, arranged-all, arranged-head}
 use Rattle.filled.proofs.Bitset.{set_own, set-count}
 use Rattle.filled.proofs.Levels.{level-root, level-stop, stop-filled}
-use Rattle.filled.proofs.Made.{ready-few, ready-short}
+use Rattle.filled.proofs.Made.{tray-few, tray-short}
 use Rattle.filled.proofs.Numbers.{loop-same, step_back, table-back, cell-filled, first-list, least-last}
 use Rattle.filled.proofs.Sets.{list-arranged}
 use Rattle.filled.proofs.Wanted.{wanted_list-given, length-wanted_list, last_row-wanted}
@@ -90,50 +90,50 @@ get_or-stops o (suc n) (suc d) b = get_or-stops o n d (omega arith) ∙ ap o (om
 -- ---- the walk
 
 -- what a step back comes to: the stop before, j, may be written, and then the walk has come to it
-pub record Next (tray : Tray) (table before cur : List ℕ) (q j here : ℕ) : Type 0 where
+pub record Next (tray : Tray) (before cur : List ℕ) (q j here : ℕ) : Type 0 where
   pub stop : j < 64
   pub room : here - 1 < length cur
-  pub more : (next : List ℕ) → next ≡ set cur (here - 1) j → Walking tray table before next (q - 1) j (here - 1)
+  pub more : (next : List ℕ) → next ≡ set cur (here - 1) j → Walking tray before next (q - 1) j (here - 1)
 
-module _ (tray : Tray) (table : List ℕ) where
+module _ (tray : Tray) where
   abbrev w : List ℕ
-  w = wanted_of tray table
+  w = wanted_of tray
 
   -- where a stop stands that is reached after the stops `seen`
-  reached-at : (seen : List ℕ) (p i here : ℕ) → Reached tray table seen p i → length seen + (here + 1) ≡ length w → in_place w here ≡ i
+  reached-at : (seen : List ℕ) (p i here : ℕ) → Reached tray seen p i → length seen + (here + 1) ≡ length w → in_place w here ≡ i
   reached-at seen p i here r e =
       let z : length w - suc (length seen) ≡ here = omega arith in
       ap (in_place w) (sym z) ∙ sym (get_or-stops (in_place w) (length w) (length seen) (omega arith)) ∙ ap (λ l. get_or l (length seen) 0) r.whole ∙ get_or-append_seam seen i r.rest 0
 
   -- as many stops are left as stand before it
-  reached-left : (seen : List ℕ) (p i here : ℕ) (r : Reached tray table seen p i) → length seen + (here + 1) ≡ length w → length r.rest ≡ here
+  reached-left : (seen : List ℕ) (p i here : ℕ) (r : Reached tray seen p i) → length seen + (here + 1) ≡ length w → length r.rest ≡ here
   reached-left seen p i here r e = omega (arith, sym (backward-length w) ∙ ap length r.whole ∙ length-append seen (i ∷ r.rest))
 
-  module _ (work : List ℕ) (h : Ready tray table work) (before cur : List ℕ) (p i here q : ℕ) (v : Walking tray table before cur p i here) (some : 0 < here)
-      (same : cell_of tray table q i ≡ cell_of tray table p i) where
+  module _ (before cur : List ℕ) (p i here q : ℕ) (v : Walking tray before cur p i here) (some : 0 < here)
+      (same : cell_of tray q i ≡ cell_of tray p i) where
     -- there is a stop before
     pub walking-place : 0 < q
     walking-place = go q same
       where
-        go : (q : ℕ) → cell_of tray table q i ≡ cell_of tray table p i → 0 < q
+        go : (q : ℕ) → cell_of tray q i ≡ cell_of tray p i → 0 < q
         go zero e =
             let r = v.reached in
-            let f = first-list tray.k (filled_of tray) (times_of tray table) i r.cost r.rest (e ∙ r.cell) in
+            let f = first-list tray.k (filled_of tray) (times_of tray) i r.cost r.rest (e ∙ r.cell) in
             absurd (omega (arith, reached-left v.seen p i here r v.left, ap length f.1))
         go (suc q) e = omega arith
 
     module _ (low : q ≤ p) (beside : beside_filled tray.k (filled_of tray) q i ≡ true) (j : ℕ)
-        (prev : (c : ℕ) (l : List ℕ) → cell_of tray table q i ≡ at c l → j ≡ get_or l 0 0) where
+        (prev : (c : ℕ) (l : List ℕ) → cell_of tray q i ≡ at c l → j ≡ get_or l 0 0) where
       -- the step back
-      step-reached : Reached tray table (v.seen ++ i ∷ []) (q - 1) j
+      step-reached : Reached tray (v.seen ++ i ∷ []) (q - 1) j
       step-reached =
           let r = v.reached in
-          let e : cell_of tray table q i ≡ at r.cost r.rest = same ∙ r.cell in
-          let b = table-back tray.k (filled_of tray) (times_of tray table) q i r.cost r.rest walking-place (cell-filled tray.k (filled_of tray) (times_of tray table) q i r.cost r.rest e) beside e in
+          let e : cell_of tray q i ≡ at r.cost r.rest = same ∙ r.cell in
+          let b = table-back tray.k (filled_of tray) (times_of tray) q i r.cost r.rest walking-place (cell-filled tray.k (filled_of tray) (times_of tray) q i r.cost r.rest e) beside e in
           let f : j ≡ b.stop = prev r.cost r.rest e ∙ ap (λ l. get_or l 0 0) (sym b.list) in
           rw f (record {
             place = omega (arith, r.place);
-            stop = omega (arith, h.stops, b.below);
+            stop = omega (arith, tray.stops, b.below);
             cost = b.cost;
             rest = b.rest;
             cell = b.cell;
@@ -147,7 +147,7 @@ module _ (tray : Tray) (table : List ℕ) where
       step_room = omega (arith, v.left, v.long, v.room)
 
       -- one stop more is written
-      step-written : (next : List ℕ) → next ≡ set cur (here - 1) j → Walking tray table before next (q - 1) j (here - 1)
+      step-written : (next : List ℕ) → next ≡ set cur (here - 1) j → Walking tray before next (q - 1) j (here - 1)
       step-written next e = rw e (record {
         seen = v.seen ++ i ∷ [];
         reached = step-reached;
@@ -163,11 +163,11 @@ module _ (tray : Tray) (table : List ℕ) where
           new x a b (no z) = get_or-set_other cur (here - 1) x j 0 z ∙ v.written x (omega arith) b
 
       -- THE STEP BACK
-      pub walking-step : Next tray table before cur q j here
-      walking-step = record { stop = omega (arith, step-reached.stop, ready-few tray table work h); room = step_room; more = step-written }
+      pub walking-step : Next tray before cur q j here
+      walking-step = record { stop = omega (arith, step-reached.stop, tray-few tray); room = step_room; more = step-written }
 
   -- THE LIST IS WRITTEN
-  pub walking-end : (before cur : List ℕ) (p i : ℕ) → Walking tray table before cur p i 0 → cur ≡ over w before
+  pub walking-end : (before cur : List ℕ) (p i : ℕ) → Walking tray before cur p i 0 → cur ≡ over w before
   walking-end before cur p i v = ext_get_or 0 cur (over w before) (v.long ∙ sym (length_over w before v.room)) (λ x b. each x (dec_lt x (length w)))
     where
       each : (x : ℕ) → Dec (x < length w) → get_or cur x 0 ≡ get_or (over w before) x 0
@@ -177,72 +177,69 @@ module _ (tray : Tray) (table : List ℕ) where
           v.beyond x (omega arith) ∙ ap (λ y. get_or before y 0) e ∙ sym (get_or-drop (length w) before (x - length w) 0) ∙ sym (get_or-append-add w (drop (length w) before) (x - length w) 0)
           ∙ ap (λ y. get_or (over w before) y 0) (sym e)
 
-  module _ (work : List ℕ) (h : Ready tray table work) where
-    -- as many stops as are filled
-    pub count-is : count_of tray ≡ length w
-    count-is =
-        let n : ℕ = 2 ^ tray.k in
-        let F : ℕ = tray.filled in
-        ap ones (set_own F n (rw h.stops at h.inside)) ∙ set-count (filled_of tray) 0 n ∙ sym (length-wanted_list tray.k (filled_of tray) (times_of tray table))
+  -- as many stops as are filled
+  pub count-is : count_of tray ≡ length w
+  count-is =
+      let n : ℕ = 2 ^ tray.k in
+      let F : ℕ = tray.filled in
+      ap ones (set_own F n (rw tray.stops at tray.inside)) ∙ set-count (filled_of tray) 0 n ∙ sym (length-wanted_list tray.k (filled_of tray) (times_of tray))
 
-    -- what is held after the last row: the total of the list, and its last stop
-    pub last-held : (total' last : ℕ) → 0 < count_of tray → (total', last) ≡ least_in (standing work ((tray.n - 1) * tray.n)) 0 tray.n → RowsMade tray table work tray.n
-        → (total' ≡ total (times_of tray table) w) × (last ≡ get_or (backward w) 0 0) × (last < 64)
-    last-held total' last b e r =
-        let k : ℕ = tray.k in
-        let t : ℕ → ℕ → ℕ = times_of tray table in
-        let f : filled_below k (filled_of tray) k 1 ≡ true = wanted-some k (filled_of tray) t (omega (arith, count-is)) in
-        let n_pos : 0 < tray.n = omega (arith, h.stops, pow_pos k) in
-        let made : least_in (standing work ((tray.n - 1) * tray.n)) 0 tray.n ≡ least_in (λ j. total_in (cell_of tray table (tray.n - 1) j)) 0 tray.n
-        = loop-same (leb 0) (leb 0) (standing work ((tray.n - 1) * tray.n)) (λ j. total_in (cell_of tray table (tray.n - 1) j)) (0 + tray.n) (λ j c. refl)
-        (λ j c. r.made (tray.n - 1) j (omega arith) (omega arith)) in
-        let q : ◌≡◌ {A = ℕ × ℕ} (total', last) (total t w, get_or (backward w) 0 0)
-        = e ∙ made ∙ ap (λ m. least_in (λ j. total_in (cell_of tray table (m - 1) j)) 0 m) h.stops ∙ least-last k (filled_of tray) t h.small (ready-short tray table work h) f in
-        let x = ends k (filled_of tray) t f in
-        let l : last ≡ get_or (backward w) 0 0 = ap (λ (z : ℕ × ℕ). z.1) q in
-        (ap (λ (z : ℕ × ℕ). z.0) q, l, omega (arith, x.inside, ready-few tray table work h, h.stops))
+  -- what is held after the last row: the total of the list, and its last stop
+  pub last-held : (row : List ℕ) (total' last m : ℕ) → 0 < count_of tray → m ≡ tray.n → (total', last) ≡ least_in (standing row) 0 m → RowIsMade tray row (tray.n - 1)
+      → (total' ≡ total (times_of tray) w) × (last ≡ get_or (backward w) 0 0) × (last < 64)
+  last-held row total' last m b a e r =
+      let k : ℕ = tray.k in
+      let t : ℕ → ℕ → ℕ = times_of tray in
+      let f : filled_below k (filled_of tray) k 1 ≡ true = wanted-some k (filled_of tray) t (omega (arith, count-is)) in
+      let made : least_in (standing row) 0 tray.n ≡ least_in (λ j. total_in (cell_of tray (tray.n - 1) j)) 0 tray.n
+      = loop-same (leb 0) (leb 0) (standing row) (λ j. total_in (cell_of tray (tray.n - 1) j)) (0 + tray.n) (λ j c. refl) (λ j c. r.made j (omega arith)) in
+      let q : ◌≡◌ {A = ℕ × ℕ} (total', last) (total t w, get_or (backward w) 0 0)
+      = e ∙ ap (least_in (standing row) 0) a ∙ made ∙ ap (λ m. least_in (λ j. total_in (cell_of tray (m - 1) j)) 0 m) tray.stops ∙ least-last k (filled_of tray) t tray.small (tray-short tray) f in
+      let x = ends k (filled_of tray) t f in
+      let l : last ≡ get_or (backward w) 0 0 = ap (λ (z : ℕ × ℕ). z.1) q in
+      (ap (λ (z : ℕ × ℕ). z.0) q, l, omega (arith, x.inside, tray-few tray, tray.stops))
 
-    -- it is reached in the last place
-    last-reached : (last : ℕ) → 0 < count_of tray → last ≡ get_or (backward w) 0 0 → Reached tray table [] (tray.n - 1) last
-    last-reached last b e =
-        let k : ℕ = tray.k in
-        let x = ends k (filled_of tray) (times_of tray table) (wanted-some k (filled_of tray) (times_of tray table) (omega (arith, count-is))) in
-        rw e (record {
-          place = omega (arith, h.stops, pow_pos k);
-          stop = omega (arith, h.stops, x.inside);
-          cost = x.cost;
-          rest = x.rest;
-          cell = ap (λ m. cell_of tray table (m - 1) (get_or (backward w) 0 0)) h.stops ∙ x.cell;
-          whole = x.whole;
-        })
+  -- it is reached in the last place
+  last-reached : (last : ℕ) → 0 < count_of tray → last ≡ get_or (backward w) 0 0 → Reached tray [] (tray.n - 1) last
+  last-reached last b e =
+      let k : ℕ = tray.k in
+      let x = ends k (filled_of tray) (times_of tray) (wanted-some k (filled_of tray) (times_of tray) (omega (arith, count-is))) in
+      rw e (record {
+        place = omega (arith, tray.stops, pow_pos k);
+        stop = omega (arith, tray.stops, x.inside);
+        cost = x.cost;
+        rest = x.rest;
+        cell = ap (λ m. cell_of tray (m - 1) (get_or (backward w) 0 0)) tray.stops ∙ x.cell;
+        whole = x.whole;
+      })
 
-    -- THE WALK BEGINS at the last stop of the list, which is written
-    pub walking_start : (list before : List ℕ) (count last : ℕ) → count ≡ count_of tray → 0 < count → count ≤ length list → last ≡ get_or (backward w) 0 0 → before ≡ set list (count - 1) last
-        → Walking tray table before before (tray.n - 1) last (count - 1)
-    walking_start list before count last e b l d f =
-        let r : Reached tray table [] (tray.n - 1) last = last-reached last (omega arith) d in
-        let left : 0 + (count - 1 + 1) ≡ length w = omega (arith, count-is) in
-        let long : length before ≡ length list = ap length f ∙ length-set list (count - 1) last in
-        record {
-          seen = [];
-          reached = r;
-          left = left;
-          long = refl;
-          room = omega arith;
-          written = λ x a c. let z : x ≡ count - 1 = omega arith in
-              rw (z, f) (get_or-set_same list (count - 1) last 0 (omega arith) ∙ sym (reached-at [] (tray.n - 1) last (count - 1) r left));
-          beyond = λ x a. refl;
-        }
+  -- THE WALK BEGINS at the last stop of the list, which is written
+  pub walking_start : (list before : List ℕ) (count last : ℕ) → count ≡ count_of tray → 0 < count → count ≤ length list → last ≡ get_or (backward w) 0 0 → before ≡ set list (count - 1) last
+      → Walking tray before before (tray.n - 1) last (count - 1)
+  walking_start list before count last e b l d f =
+      let r : Reached tray [] (tray.n - 1) last = last-reached last (omega arith) d in
+      let left : 0 + (count - 1 + 1) ≡ length w = omega (arith, count-is) in
+      let long : length before ≡ length list = ap length f ∙ length-set list (count - 1) last in
+      record {
+        seen = [];
+        reached = r;
+        left = left;
+        long = refl;
+        room = omega arith;
+        written = λ x a c. let z : x ≡ count - 1 = omega arith in
+            rw (z, f) (get_or-set_same list (count - 1) last 0 (omega arith) ∙ sym (reached-at [] (tray.n - 1) last (count - 1) r left));
+        beyond = λ x a. refl;
+      }
 
-    -- ---- no filled stop
+  -- ---- no filled stop
 
-    -- the list is empty, and its total 0
-    pub none-wanted : count_of tray ≡ 0 → (0 ≡ total (times_of tray table) w) × ((list : List ℕ) → list ≡ over w list)
-    none-wanted e = go w (omega (arith, count-is))
-      where
-        go : (l : List ℕ) → length l ≡ 0 → (0 ≡ total (times_of tray table) l) × ((list : List ℕ) → list ≡ over l list)
-        go [] b = (refl, λ list. refl)
-        go (i ∷ l) b = absurd (omega arith)
+  -- the list is empty, and its total 0
+  pub none-wanted : count_of tray ≡ 0 → (0 ≡ total (times_of tray) w) × ((list : List ℕ) → list ≡ over w list)
+  none-wanted e = go w (omega (arith, count-is))
+    where
+      go : (l : List ℕ) → length l ≡ 0 → (0 ≡ total (times_of tray) l) × ((list : List ℕ) → list ≡ over l list)
+      go [] b = (refl, λ list. refl)
+      go (i ∷ l) b = absurd (omega arith)
 
   -- what is written over the list's last place is written anyway
   pub over_last : (list before after : List ℕ) (here v : ℕ) → after ≡ over w before → here < length w → before ≡ set list here v → after ≡ over w list

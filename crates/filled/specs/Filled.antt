@@ -1,12 +1,12 @@
 -- What planning the wanted list answers, and what it leaves in the lent buffers.
-use Rattle.std.specs.Prelude.{◌≡◌, Bool, true, ◌&&◌, List, [], ◌∷◌, ℕ, ◌*◌, ◌^◌, leb, eqb, length, get_or, take, replicate}
+use Rattle.std.specs.Prelude.{◌≡◌, Bool, true, ◌&&◌, List, [], ◌∷◌, ℕ, ◌*◌, ◌^◌, leb, eqb, length, get_or, take, replicate, Result, Ok}
+use Rattle.base.specs.declared.Refusal.{Refusal}
 use Rattle.base.specs.Refusal.{wrong_k, out_of_range, wrong_size}
-use Rattle.base.specs.Outcome.{Outcome, gives, refuses, need, giving, after}
+use Rattle.base.specs.Outcome.{Outcome, gives, need, giving, said, after}
 use Rattle.base.specs.Buffer.{Unsigned, SharedUnsigned, at_entry, at_exit, contents}
 use Rattle.tree.specs.Total.{entry, total}
 use Rattle.orders.specs.Bits.{byte_count, bit_string, set_of_bits}
 use Rattle.filled.specs.declared.ListPlanned.{ListPlanned}
-use Rattle.filled.specs.declared.ListPlanned.TheVariants.{Done, Refused}
 use Rattle.filled.specs.Forks.{list_forks, ForksOfList}
 use Rattle.filled.specs.Lists.{wanted_list, ShortestList}
 
@@ -61,10 +61,9 @@ abbrev pub plan_list : (k : ℕ) (table empties : List ℕ) (list bits work : �
 plan_list k table empties list bits work =
     giving (λ room. wanted_plan k (filled_in (bytes_in k empties)) (entry (2 ^ k) table)) (list_room k (length table) empties list bits work)
 
--- what an answer says: the list's total and its length
-unfoldable pub said : ListPlanned → Outcome (ℕ × ℕ)
-said (Done total count) = gives (total, count)
-said (Refused n) = refuses n
+-- what is answered of a plan: the list's total and its length
+abbrev pub answer_of : ListPlan → ListPlanned
+answer_of plan = record { total = plan.total; length = length plan.list }
 
 -- what holds of an answer that accepts: the list that it leaves is the shortest, and the bits that it leaves are the list's
 pub record Accepted (k : ℕ) (table empties list' bits' : List ℕ) (c count : ℕ) : Type 0 where
@@ -72,15 +71,15 @@ pub record Accepted (k : ℕ) (table empties list' bits' : List ℕ) (c count : 
   pub forks : ForksOfList k (filled_in (bytes_in k empties)) (take count list') (set_of_bits (take (byte_count (2 ^ k)) bits'))
 
 -- the promise: the answer, and each lent buffer before and after; `claim` is optimality
-pub record ListIsPlanned (k : ℕ) (table empties : List ℕ) (o : Outcome ListPlan) (list bits work list' bits' work' : List ℕ) (r : ListPlanned) : Type 0 where
-  pub said : said r ≡ giving (λ p. (p.total, length p.list)) o
+pub record ListIsPlanned (k : ℕ) (table empties : List ℕ) (o : Outcome ListPlan) (list bits work list' bits' work' : List ℕ) (r : Result ListPlanned Refusal) : Type 0 where
+  pub said : said r ≡ giving answer_of o
   pub wrote : list' ≡ after o (λ p. p.list) list
   pub marked : bits' ≡ after o (λ p. bit_string k p.forks) bits
   pub cleared : work' ≡ after o (λ p. replicate (2 ^ k * 2 ^ k) 0) work
-  pub claim : (c count : ℕ) → r ≡ Done c count → Accepted k table empties list' bits' c count
+  pub claim : (p : ListPlanned) → r ≡ Ok p → Accepted k table empties list' bits' p.total p.length
 
 -- the same of the call's parameters
-abbrev pub PlansList : ℕ → SharedUnsigned → SharedUnsigned → Unsigned → Unsigned → Unsigned → ListPlanned → Type 0
+abbrev pub PlansList : ℕ → SharedUnsigned → SharedUnsigned → Unsigned → Unsigned → Unsigned → Result ListPlanned Refusal → Type 0
 PlansList k table empties list bits work r =
     ListIsPlanned k (contents table) (contents empties)
     (plan_list k (contents table) (contents empties) (length (at_entry list)) (length (at_entry bits)) (length (at_entry work)))

@@ -1,5 +1,5 @@
 -- What the program keeps of the table: one number for each cell, row by row in the lent numbers.
-use Rattle.std.specs.Prelude.{◌≡◌, Bool, cond, List, ℕ, zero, suc, ◌+◌, ◌*◌, ◌-◌, ◌^◌, ◌≤◌, ◌<◌, eqb, leb, length, get_or}
+use Rattle.std.specs.Prelude.{◌≡◌, Bool, cond, List, ℕ, zero, suc, ◌+◌, ◌*◌, ◌^◌, ◌≤◌, ◌<◌, eqb, leb, length, get_or}
 use Rattle.tree.specs.Block.{beside_of}
 use Rattle.tree.specs.Fork.{bit}
 use Rattle.tree.specs.Neighbour.{trail}
@@ -27,46 +27,48 @@ unfoldable pub set_of : (ℕ → Bool) → ℕ → ℕ
 set_of s zero = 0
 set_of s (suc n) = set_of s n + cond (s n) (2 ^ n) 0
 
--- which stops are filled, and the times of a table
+-- which stops of a tray are filled, and the times between its stops
 abbrev pub filled_of : Tray → ℕ → Bool
 filled_of tray = in_set tray.filled
 
-abbrev pub times_of : Tray → List ℕ → ℕ → ℕ → ℕ
-times_of tray table = entry tray.n table
+abbrev pub times_of : Tray → ℕ → ℕ → ℕ
+times_of tray = entry tray.n tray.table.now
 
 -- the cell of stop i in place p
-abbrev pub cell_of : Tray → List ℕ → ℕ → ℕ → Found (List ℕ)
-cell_of tray table = table_at tray.k (filled_of tray) (times_of tray table)
+abbrev pub cell_of : Tray → ℕ → ℕ → Found (List ℕ)
+cell_of tray = table_at tray.k (filled_of tray) (times_of tray)
 
 -- of x first, x (first + 1), .. the first d: the least that is below `unreached`, with its number; of equals the smaller number
 abbrev pub least_in : (ℕ → ℕ) → ℕ → ℕ → ℕ × ℕ
 least_in x first d = loop unreached (leb first) x (λ j. j) (first + d)
 
--- the number that stands at `row` + j
-abbrev pub standing : List ℕ → ℕ → ℕ → ℕ
-standing work row j = get_or work (row + j) 0
+-- the number that stands at j of a row
+abbrev pub standing : List ℕ → ℕ → ℕ
+standing row j = get_or row j 0
 
--- the total of coming to stop `to` from stop j, whose total stands there, and the move's time
-abbrev pub through : ℕ → List ℕ → List ℕ → ℕ → ℕ → ℕ → ℕ
-through n table work row to j = standing work row j + entry n table j to
+-- the total of coming to stop `to` from stop j, whose total stands in the row, and the move's time
+abbrev pub through : Tray → List ℕ → ℕ → ℕ → ℕ
+through tray row to j = standing row j + times_of tray j to
 
 -- the cheapest way to stop `to` in place p from the group beside stop i, by the row of the place before
-unfoldable pub from_group : Tray → (table work : List ℕ) → (p i to : ℕ) → ℕ × ℕ
-from_group tray table work p i to = least_in (through tray.n table work ((p - 1) * tray.n) to) (beside_of i (trail p)) (2 ^ trail p)
+unfoldable pub from_group : Tray → (row : List ℕ) → (p i to : ℕ) → ℕ × ℕ
+from_group tray row p i to = least_in (through tray row to) (beside_of i (trail p)) (2 ^ trail p)
 
--- what the method works with: k up to 6, n = 2^k stops, filled stops among them, a table and as many numbers of work space
-pub record Ready (tray : Tray) (table work : List ℕ) : Type 0 where
-  pub small : tray.k ≤ 6
-  pub stops : tray.n ≡ 2 ^ tray.k
-  pub inside : tray.filled < 2 ^ tray.n
-  pub square : length table ≡ tray.n * tray.n
-  pub times : (a : ℕ) → get_or table a 0 < 2 ^ 32
+-- a row: a number for each stop, none above `unreached`
+pub record IsRow (tray : Tray) (row : List ℕ) : Type 0 where
+  pub long : length row ≡ tray.n
+  pub low : (i : ℕ) → i < tray.n → standing row i ≤ unreached
+
+-- the row of place p, which is made
+pub record RowIsMade (tray : Tray) (row : List ℕ) (p : ℕ) : Type 0 where
+  pub long : length row ≡ tray.n
+  pub made : (i : ℕ) → i < tray.n → standing row i ≡ total_in (cell_of tray p i)
+
+-- work space of n rows, of which the first p are made
+pub record RowsMade (tray : Tray) (work : List ℕ) (p : ℕ) : Type 0 where
   pub rows : length work ≡ tray.n * tray.n
+  pub made : (q i : ℕ) → q < p → i < tray.n → get_or work (q * tray.n + i) 0 ≡ total_in (cell_of tray q i)
 
--- the first p rows are made
-pub record RowsMade (tray : Tray) (table work : List ℕ) (p : ℕ) : Type 0 where
-  pub made : (q i : ℕ) → q < p → i < tray.n → standing work (q * tray.n) i ≡ total_in (cell_of tray table q i)
-
--- the first i cells of row p
-pub record CellsMade (tray : Tray) (table work : List ℕ) (p i : ℕ) : Type 0 where
-  pub made : (j : ℕ) → j < i → standing work (p * tray.n) j ≡ total_in (cell_of tray table p j)
+-- the first i cells of row p are made
+pub record CellsMade (tray : Tray) (work : List ℕ) (p i : ℕ) : Type 0 where
+  pub made : (j : ℕ) → j < i → get_or work (p * tray.n + j) 0 ≡ total_in (cell_of tray p j)

@@ -12,128 +12,97 @@ mod row;
 mod tray;
 mod walk;
 
-ghost use Rattle.std.specs.Prelude.{◌≡◌, cond, ◌+◌, ◌/◌, ◌≤◌, ◌<◌, ◌^◌, length, take, replicate};
-ghost use Rattle.base.specs.Outcome.{gives, number};
+ghost use Rattle.std.specs.Prelude.{◌≡◌, ◌+◌, ◌*◌, ◌/◌, ◌≤◌, length};
+ghost use Rattle.base.specs.Outcome.{gives, said};
 ghost use Rattle.filled.specs.Filled.{flags, filled_in, lengths_first, list_room, PlansList};
-ghost use Rattle.filled.specs.Row.{set_of, Ready};
+ghost use Rattle.filled.specs.Row.{set_of};
 ghost use Rattle.filled.specs.Walk.{WritesList};
 
-use base::{OUT_OF_RANGE, WRONG_K, WRONG_SIZE, stop_count};
+use base::{Refusal, stop_count};
 use tray::Tray;
 
 // The largest k of a tray.
 pub const MAX_FILLED_K: u16 = 6;
 
-// What planning answers: the total and the length of the list that was written, or the refusal's number.
-#[derive(Clone, Copy)]
-pub enum ListPlanned {
-    Done(u64, usize),
-    Refused(u16),
+// What planning answers: the total and the length of the list that was written.
+#[derive(Clone, Copy, Debug, PartialEq, Eq)]
+pub struct ListPlanned {
+    pub total: u64,
+    pub length: usize,
 }
 
-// 0, or the number of the refusal for these lengths: k above 6 (5), then a table not n² long or a lent buffer too short (8).
-fn judge_lengths(k: u16, table: usize, empties: usize, list: usize, bits: usize, work: usize) -> u16
-    ensures { result ≡ number (lengths_first k table empties list bits work (gives tt)) }
+// The refusal of these lengths: k above 6 (5), then a table not n² long or a lent buffer too short (8).
+fn judge_lengths(
+    k: u16,
+    table: usize,
+    empties: usize,
+    list: usize,
+    bits: usize,
+    work: usize,
+) -> Result<(), Refusal>
+    ensures { said result ≡ lengths_first k table empties list bits work (gives tt) }
 {
     if MAX_FILLED_K < k {
-        return WRONG_K;
+        return Err(Refusal::WrongK);
     }
     let n = stop_count(k);
-    if table != n * n {
-        return WRONG_SIZE;
+    if table != n * n || empties < n || list < n || bits < (n + 7) / 8 || work < n * n {
+        return Err(Refusal::WrongSize);
     }
-    if empties < n {
-        return WRONG_SIZE;
-    }
-    if list < n {
-        return WRONG_SIZE;
-    }
-    if bits < (n + 7) / 8 {
-        return WRONG_SIZE;
-    }
-    if work < n * n {
-        return WRONG_SIZE;
-    }
-    0
+    Ok(())
 }
 
-// Whether the first n bytes are all 0 or 1.
-fn are_flags(n: usize, empties: &[u8]) -> bool
-    requires { n ≤ length empties.now }
-    ensures { result ≡ flags (take n empties.now) }
+// Whether the bytes are all 0 or 1.
+fn are_flags(bytes: &[u8]) -> bool
+    ensures { result ≡ flags bytes.now }
 {
-    let mut i = 0;
-    while i < n {
-        if 1 < empties[i] {
-            return false;
-        }
-        i += 1;
-    }
-    true
+    bytes.iter().all(|byte| *byte <= 1)
 }
 
-// 0, or the number of the refusal: the lengths first, then a byte that is not 0 or 1 (6).
-fn judge(k: u16, table: usize, empties: &[u8], list: usize, bits: usize, work: usize) -> u16
-    ensures { result ≡ number (list_room k table empties.now list bits work) }
+// The refusal of a call: the lengths first, then a byte that is not 0 or 1 (6).
+fn judge(
+    k: u16,
+    table: usize,
+    empties: &[u8],
+    list: usize,
+    bits: usize,
+    work: usize,
+) -> Result<(), Refusal>
+    ensures { said result ≡ list_room k table empties.now list bits work }
 {
-    let refused = judge_lengths(k, table, empties.len(), list, bits, work);
-    if refused != 0 {
-        return refused;
+    judge_lengths(k, table, empties.len(), list, bits, work)?;
+    if are_flags(&empties[..stop_count(k)]) {
+        Ok(())
+    } else {
+        Err(Refusal::OutOfRange)
     }
-    if !are_flags(stop_count(k), empties) {
-        return OUT_OF_RANGE;
-    }
-    0
 }
 
-// A set of stops with stop i, which is not in it, if its byte is 0.
-fn with_stop(empties: &[u8], set: u64, i: usize) -> u64
-    requires { (i < length empties.now) × (i < 64) × (set < 2 ^ i) }
-    ensures { result ≡ set + cond (filled_in empties.now i) (2 ^ i) 0 }
-{
-    if empties[i] == 0 {
-        return set + (1u64 << i);
-    }
-    set
-}
-
-// The set of the filled stops: bit i is stop i.
-fn filled_set(n: usize, empties: &[u8]) -> u64
-    requires { (n ≤ 64) × (n ≤ length empties.now) }
-    ensures { result ≡ set_of (filled_in (take n empties.now)) n }
+// The set of the filled stops: bit i is stop i, whose byte is 0.
+fn filled_set(empties: &[u8]) -> u64
+    requires { length empties.now ≤ 64 }
+    ensures { result ≡ set_of (filled_in empties.now) (length empties.now) }
 {
     let mut set: u64 = 0;
-    for i in 0..n {
-        set = with_stop(empties, set, i);
+    for (i, byte) in empties.iter().enumerate() {
+        if *byte == 0 {
+            set += 1u64 << i;
+        }
     }
     set
-}
-
-// Sets every number to 0.
-fn clear(work: &mut [u64])
-    ensures { work.new ≡ replicate (length work.old) 0 }
-{
-    for i in 0..work.len() {
-        work[i] = 0;
-    }
 }
 
 // Writes the wanted list, its fork bits, and 0 to all of the work space.
-fn run(
-    tray: Tray,
-    table: &[u32],
-    list: &mut [u16],
-    bits: &mut [u8],
-    work: &mut [u64],
-) -> ListPlanned
-    requires { Ready tray table.now work.old × (tray.n ≤ length list.old) × ((tray.n + 7) / 8 ≤ length bits.old) }
-    ensures { WritesList tray table list bits work result }
+fn run(tray: &Tray, list: &mut [u16], bits: &mut [u8], work: &mut [u64]) -> ListPlanned
+    requires work { length work.old ≡ tray.now.n * tray.now.n }
+    requires buffers { (tray.now.n ≤ length list.old) × ((tray.now.n + 7) / 8 ≤ length bits.old) }
+    ensures { WritesList tray.now list bits work result }
 {
-    let count = u64::count_ones(tray.filled) as usize;
-    let total = walk::wanted_list(tray, table, work, list, count);
-    fork::write_bits(tray.k, tray.n, list, count, bits);
-    clear(work);
-    ListPlanned::Done(total, count)
+    let length = tray.filled.count_ones() as usize;
+    let total = tray.wanted_list(work, list, length);
+    tray.write_bits(&list[..length], bits);
+    work.fill(0);
+    ListPlanned { total, length }
 }
 
 // Plans the wanted list of the filled stops among n = 2^k, k up to 6. `empties` has one byte a stop, 0 for filled and 1 for empty. The table has row
@@ -146,15 +115,16 @@ pub fn plan_filled(
     list: &mut [u16],
     bits: &mut [u8],
     work: &mut [u64],
-) -> ListPlanned
+) -> Result<ListPlanned, Refusal>
     ensures { PlansList k table empties list bits work result }
 {
-    let refused = judge(k, table.len(), empties, list.len(), bits.len(), work.len());
-    if refused != 0 {
-        return ListPlanned::Refused(refused);
-    }
+    judge(k, table.len(), empties, list.len(), bits.len(), work.len())?;
     let n = stop_count(k);
-    let filled = filled_set(n, empties);
-    let tray = Tray { k, n, filled };
-    run(tray, table, list, bits, &mut work[..n * n])
+    let tray = Tray {
+        k,
+        n,
+        filled: filled_set(&empties[..n]),
+        table,
+    };
+    Ok(run(&tray, list, bits, &mut work[..n * n]))
 }

@@ -1,41 +1,24 @@
-// The tray: which stops are filled, and the groups of stops beside a stop.
+// The tray: which stops are filled, the times between them, and the groups of stops beside a stop.
 
-ghost use Rattle.std.specs.Prelude.{◌≡◌, ◌&&◌, ◌+◌, ◌/◌, ◌%◌, ◌^◌, ◌≤◌, ◌<◌, ltb};
+ghost use Rattle.std.specs.Prelude.{◌≡◌, ℕ, ◌+◌, ◌*◌, ◌^◌, ◌≤◌, ◌<◌, length, get_or};
 ghost use Rattle.tree.specs.Block.{beside_of};
 ghost use Rattle.tree.specs.Neighbour.{trail};
-ghost use Rattle.filled.specs.Table.{beside_filled};
-ghost use Rattle.filled.specs.Row.{in_set, filled_of};
 
-// The tree of n = 2^k stops, and which of them are filled: bit i of `filled` is stop i.
+// The tree of n = 2^k stops, which of them are filled, and the times between them: bit i of `filled` is stop i, and the table has row 'from'
+// and column 'to'. The work space stays a parameter: a struct that held the `&mut` would be no plainer, since each contract would have to say too
+// that it is still the same reference and the same tray.
 #[derive(Clone, Copy)]
-pub struct Tray {
+pub struct Tray<'a> {
     pub k: u16,
     pub n: usize,
     pub filled: u64,
-}
-
-// Stop i is filled.
-pub fn is_filled(filled: u64, i: usize) -> bool
-    requires { i < 64 }
-    ensures { result ≡ in_set filled i }
-{
-    (filled >> i) % 2 == 1
-}
-
-// The stops i and i + 1 are filled.
-pub fn both_filled(filled: u64, i: usize) -> bool
-    requires { i < 64 }
-    ensures { result ≡ (in_set filled i && in_set filled (i + 1)) }
-{
-    (filled >> i) % 4 == 3
-}
-
-// One of the `size` stops from `first` on is filled.
-fn some_filled(filled: u64, first: usize, size: usize) -> bool
-    requires { (first < 64) × (size < 64) }
-    ensures { result ≡ ltb 0 (filled / 2 ^ first % 2 ^ size) }
-{
-    0 < (filled >> first) % (1u64 << size)
+    pub table: &'a [u32],
+    ghost small: { k ≤ 6 },
+    ghost stops: { n ≡ 2 ^ k },
+    ghost inside: { filled < 2 ^ n },
+    ghost square: { length table.now ≡ n * n },
+    // The table's numbers have 32 bits.
+    ghost times: { (a : ℕ) → get_or table.now a 0 < 2 ^ 32 },
 }
 
 // An aligned block of stops: its first, and how many.
@@ -50,18 +33,55 @@ pub fn group_beside(p: usize, i: usize) -> Group
     requires { (0 < p) × (p < 64) × (i < 64) }
     ensures { (result.first ≡ beside_of i (trail p)) × (result.size ≡ 2 ^ trail p) }
 {
-    let t = usize::trailing_zeros(p);
+    let t = p.trailing_zeros();
     Group {
         first: ((i >> t) ^ 1) << t,
         size: 1usize << t,
     }
 }
 
-// That group has a filled stop.
-pub fn beside_filled(tray: Tray, p: usize, i: usize) -> bool
-    requires { (tray.k ≤ 6) × (tray.n ≡ 2 ^ tray.k) × (0 < p) × (p < tray.n) × (i < tray.n) }
-    ensures { result ≡ beside_filled tray.k (filled_of tray) p i }
-{
-    let group = group_beside(p, i);
-    some_filled(tray.filled, group.first, group.size)
+impl Tray<'_> {
+    ghost use Rattle.std.specs.Prelude.{◌≡◌, ◌&&◌, ◌+◌, ◌/◌, ◌%◌, ◌^◌, ◌<◌, ltb};
+    ghost use Rattle.filled.specs.Table.{beside_filled};
+    ghost use Rattle.filled.specs.Row.{filled_of, times_of};
+
+    // Stop i is filled.
+    pub fn is_filled(&self, i: usize) -> bool
+        requires { i < self.now.n }
+        ensures { result ≡ filled_of self.now i }
+    {
+        (self.filled >> i) % 2 == 1
+    }
+
+    // The stops i and i + 1 are filled.
+    pub fn both_filled(&self, i: usize) -> bool
+        requires { i + 1 < self.now.n }
+        ensures { result ≡ (filled_of self.now i && filled_of self.now (i + 1)) }
+    {
+        self.is_filled(i) && self.is_filled(i + 1)
+    }
+
+    // One of the group's stops is filled.
+    fn some_filled(&self, group: Group) -> bool
+        requires { (group.first < 64) × (group.size < 64) }
+        ensures { result ≡ ltb 0 (self.now.filled / 2 ^ group.first % 2 ^ group.size) }
+    {
+        0 < (self.filled >> group.first) % (1u64 << group.size)
+    }
+
+    // The group beside stop i in place p has a filled stop.
+    pub fn beside_filled(&self, p: usize, i: usize) -> bool
+        requires { (0 < p) × (p < self.now.n) × (i < self.now.n) }
+        ensures { result ≡ beside_filled self.now.k (filled_of self.now) p i }
+    {
+        self.some_filled(group_beside(p, i))
+    }
+
+    // What the move from one stop to another takes.
+    pub fn time(&self, from: usize, to: usize) -> u64
+        requires { (from < self.now.n) × (to < self.now.n) }
+        ensures { (result ≡ times_of self.now from to) × (result < 2 ^ 32) }
+    {
+        u64::from(self.table[from * self.n + to])
+    }
 }

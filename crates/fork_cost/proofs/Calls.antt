@@ -5,7 +5,9 @@ use Prim.Native.Nat.{ℕ, ◌^◌, ◌≤◌, ◌<◌}
 use native.Mathlib.Omega.{arith}
 use lib.ListN.{length}
 use Rattle.base.specs.Refusal.{no_such_fork}
-use Rattle.base.specs.Outcome.{Outcome, gives, refuses, number, giving}
+use Rattle.std.specs.Prelude.{Result}
+use Rattle.base.specs.declared.Refusal.{Refusal}
+use Rattle.base.specs.Outcome.{Outcome, gives, refuses, number, giving, said}
 use Rattle.base.proofs.Outcome.{number-first, passed}
 use Rattle.stop.specs.declared.Stop.{Stop}
 use Rattle.path.specs.Path.{path, read_path, any_size}
@@ -18,9 +20,9 @@ use Rattle.screen.specs.Records.{is_fork}
 use Rattle.screen.proofs.Records.{in-fork, fork-in}
 use Rattle.screen.proofs.Calls.{path-of}
 use Rattle.fork_cost.specs.declared.ForkCost.{ForkCost}
-use Rattle.fork_cost.specs.Cost.{Cost, SizedCost, compared, cost_of, cost_room, cost_of_fork, fork_cost, said, CostIsGiven}
+use Rattle.fork_cost.specs.Cost.{Cost, SizedCost, compared, cost_of, cost_room, cost_of_fork, fork_cost, told, CostIsGiven}
 use Rattle.fork_cost.specs.Truth.{TrueCost}
-use Rattle.fork_cost.proofs.Judging.{room-sound}
+use Rattle.fork_cost.proofs.Judging.{room-numbered}
 use Rattle.fork_cost.proofs.Truth.{cost-true, exchange-dearer}
 
 -- what gives a cost was not refused
@@ -29,8 +31,8 @@ gives-accepted (gives given) e = refl
 gives-accepted (refuses n) e = let z : ◌≡◌ {A = ℕ} 0 1 = cc in absurd (omega arith)
 
 module _ (bytes : List ℕ) (highest version k : ℕ) (ss : List Stop) (means : read_path bytes highest any_size ≡ gives (path version k ss)) (fork : ℕ) {totals pivots orders totals' pivots' orders' : List ℕ}
-    {r : ForkCost} {c : Cost} (promise : CostIsGiven (fork_cost bytes highest fork (length totals) (length pivots) (length orders)) totals pivots orders totals' pivots' orders' r)
-    (answer : said r ≡ gives c) where
+    {r : Result ForkCost Refusal} {c : Cost} (promise : CostIsGiven (fork_cost bytes highest fork (length totals) (length pivots) (length orders)) totals pivots orders totals' pivots' orders' r)
+    (answer : giving told (said r) ≡ gives c) where
   -- the fork is one of the path's, and what is told is its cost
   pub given-cost : (1 ≤ fork) × (fork < 2 ^ k) × (c ≡ cost_of k (entry_of ss) fork)
   unfolding fork_cost cost_of_fork
@@ -38,7 +40,7 @@ module _ (bytes : List ℕ) (highest version k : ℕ) (ss : List Stop) (means : 
       let test : ℕ → Outcome Unit = cost_room (length totals) (length pivots) (length orders) in
       let says : gives c ≡ giving (λ given. given.cost) (fork_cost bytes highest fork (length totals) (length pivots) (length orders)) = sym answer ∙ promise.said in
       let z = gives-accepted (fork_cost bytes highest fork (length totals) (length pivots) (length orders)) says in
-      let reads = (path-of bytes highest version k ss means highest test (room-sound (length totals) (length pivots) (length orders)) (number-first (read_path bytes highest test) (cost_of_fork fork) z)).0 in
+      let reads = (path-of bytes highest version k ss means highest test (room-numbered (length totals) (length pivots) (length orders)) (number-first (read_path bytes highest test) (cost_of_fork fork) z)).0 in
       let f = in-fork k fork (passed (is_fork k fork) no_such_fork _ (omega arith) (rw reads at z)).holds in
       let is : gives c ≡ gives (cost_of k (entry_of ss) fork) = rw (reads, fork-in k fork f.0 f.1) at says in
       (f.0, f.1, cc)

@@ -7,17 +7,23 @@ use native.Mathlib.Decide.{dec_le}
 use native.Mathlib.Omega.{arith}
 use lib.ListN.{length, drop, length-replicate}
 use borrow.Author.Tests.{le-leb, lt-leb, leb-true}
-use Rattle.base.specs.Refusal.{wrong_size}
+use Rattle.std.specs.Prelude.{Ok, Err}
+use Rattle.base.specs.declared.Refusal.{Refusal}
+use Rattle.base.specs.declared.Refusal.TheVariants.{NoSuchFork}
+use Rattle.base.specs.Refusal.{wrong_size, refusal_number}
 use Rattle.base.specs.Outcome.{gives, refuses, number}
+use Rattle.base.proofs.Numbered.{Numbered, given, need-numbered}
 use Rattle.base.proofs.Outcome.{passed}
-use Rattle.path.specs.Path.{path, read_path, stops_in}
+use Rattle.base.proofs.Size.{pow-le-1024}
+use Rattle.path.specs.declared.PathBytes.{PathBytes}
+use Rattle.path.specs.Path.{read_path}
+use lib.Dec.{leb}
 use Rattle.screen.specs.Screen.{places_room}
-use Rattle.screen.proofs.Screen.{places-few, places-good, places-long}
+use Rattle.screen.proofs.Screen.{GoodPath, places-few, places-good}
 use Rattle.screen.proofs.Records.{fork-in, fork-out}
 use Rattle.fork_cost.specs.declared.ForkCost.{ForkCost}
-use Rattle.fork_cost.specs.declared.ForkCost.TheVariants.{Refused}
-use Rattle.fork_cost.specs.Cost.{cost_room, cost_of_fork, fork_cost, said, CostIsGiven}
-use Rattle.fork_cost.specs.Local.{times_of, CostLeft}
+use Rattle.fork_cost.specs.Cost.{cost_room, cost_of_fork, fork_cost, cost_of, told, CostIsGiven}
+use Rattle.fork_cost.specs.Local.{Judged, times_of, times_by, CostLeft}
 
 -- ---- lengths
 
@@ -54,36 +60,50 @@ room-long totals pivots orders k e =
     let c = passed _ wrong_size _ (omega arith) b.goes_on in
     (leb-true _ _ a.holds, leb-true _ _ b.holds, leb-true _ _ c.holds)
 
-pub room-sound : (totals pivots orders k : ℕ) → number (cost_room totals pivots orders k) ≡ 0 → cost_room totals pivots orders k ≡ gives tt
-room-sound totals pivots orders k e =
-    let half : ℕ = min (min totals pivots) orders / 2 in
-    let agrees = room-places totals pivots orders k in
-    agrees ∙ places-good half k (places-long half k (sym (ap number agrees) ∙ e))
+-- a refusal of theirs has a number of the table
+pub room-numbered : (totals pivots orders k : ℕ) → Numbered (cost_room totals pivots orders k)
+unfolding cost_room
+room-numbered totals pivots orders k =
+    need-numbered (leb (2 ^ k + 2 ^ k) totals) wrong_size _ (omega arith) (omega arith)
+    (need-numbered (leb (2 ^ k + 2 ^ k) pivots) wrong_size _ (omega arith) (omega arith)
+    (need-numbered (leb (2 ^ k + 2 ^ k) orders) wrong_size (gives tt) (omega arith) (omega arith) (given tt)))
 
 -- ---- refused
 
 module _ (bytes : List ℕ) (highest fork : ℕ) (totals pivots orders : List ℕ) where
   -- the path is
-  pub path-refused : (n : ℕ) → read_path bytes highest (cost_room (length totals) (length pivots) (length orders)) ≡ refuses n
-      → CostIsGiven (fork_cost bytes highest fork (length totals) (length pivots) (length orders)) totals pivots orders totals pivots orders (Refused n)
-  unfolding fork_cost said
-  path-refused n e = record { said = rw e; cleared_totals = rw e; cleared_pivots = rw e; cleared_orders = rw e }
+  pub path-refused : (r : Refusal) → read_path bytes highest (cost_room (length totals) (length pivots) (length orders)) ≡ refuses (refusal_number r)
+      → CostIsGiven (fork_cost bytes highest fork (length totals) (length pivots) (length orders)) totals pivots orders totals pivots orders (Err r)
+  unfolding fork_cost
+  path-refused r e = record { said = rw e; cleared_totals = rw e; cleared_pivots = rw e; cleared_orders = rw e }
 
-  module _ (version k : ℕ) (reads : read_path bytes highest (cost_room (length totals) (length pivots) (length orders)) ≡ gives (path version k (stops_in version (2 ^ k) bytes))) where
+  module _ (p : PathBytes) (good : GoodPath bytes highest (cost_room (length totals) (length pivots) (length orders)) p) where
     -- the fork is
-    pub fork-refused : (1 ≤ fork → fork < 2 ^ k → ⊥) → CostIsGiven (fork_cost bytes highest fork (length totals) (length pivots) (length orders)) totals pivots orders totals pivots orders (Refused 14)
-    unfolding fork_cost cost_of_fork said
-    fork-refused f = let e = fork-out k fork f in record { said = rw (reads, e); cleared_totals = rw (reads, e); cleared_pivots = rw (reads, e); cleared_orders = rw (reads, e) }
-
-    -- ---- answered
-    pub cost-given : {n : ℕ} {totals' pivots' orders' : List ℕ} {r : ForkCost} → 1 ≤ fork → fork < 2 ^ k → n ≡ 2 ^ k → CostLeft k (times_of bytes version k) fork orders' totals pivots totals' pivots' r
-        → CostIsGiven (fork_cost bytes highest fork (length totals) (length pivots) (length orders)) totals pivots orders totals' pivots' (orders' ++ drop (n + n) orders) r
+    pub fork-refused : (1 ≤ fork → fork < 2 ^ p.k → ⊥) → CostIsGiven (fork_cost bytes highest fork (length totals) (length pivots) (length orders)) totals pivots orders totals pivots orders (Err NoSuchFork)
     unfolding fork_cost cost_of_fork
-    cost-given a b e l =
-        let f = fork-in k fork a b in
-        record {
-          said = rw (reads, f) l.given;
-          cleared_totals = rw (reads, f) l.space.rows;
-          cleared_pivots = rw (reads, f) l.space.marks;
-          cleared_orders = rw (reads, f) (ap₂ ◌++◌ l.orders (ap (λ m. drop m orders) (ap (λ x. x + x) e ∙ sym (length-replicate (2 ^ k + 2 ^ k) 0))));
-        }
+    fork-refused f = let e = fork-out p.k fork f in record { said = rw (good.reads, e); cleared_totals = rw (good.reads, e); cleared_pivots = rw (good.reads, e); cleared_orders = rw (good.reads, e) }
+
+    -- for a number n that is 2^k the orders have 2n places, and n is small
+    pub long : {n : ℕ} → n ≡ 2 ^ p.k → (n + n ≤ length orders) × (n ≤ 1024)
+    long e = let l = room-long _ _ _ p.k good.takes in (omega (arith, e, l.2), omega (arith, e, pow-le-1024 p.k good.small))
+
+    module _ (same : p.bytes.now ≡ bytes) where
+      -- what the plans ask
+      pub judged : Judged p (length totals) (length pivots)
+      judged =
+          let l = room-long _ _ _ p.k good.takes in
+          record { small = good.small; body = rw same (ap number good.body.stops); rows = l.0; marks = l.1 }
+
+      -- ---- answered
+      pub cost-given : {n : ℕ} {totals' pivots' orders' : List ℕ} {r : ForkCost} → 1 ≤ fork → fork < 2 ^ p.k → n ≡ 2 ^ p.k → CostLeft p.k (times_by p) fork orders' totals pivots totals' pivots' r
+          → CostIsGiven (fork_cost bytes highest fork (length totals) (length pivots) (length orders)) totals pivots orders totals' pivots' (orders' ++ drop (n + n) orders) (Ok r)
+      unfolding fork_cost cost_of_fork
+      cost-given {r = r} a b e l =
+          let f = fork-in p.k fork a b in
+          let given : told r ≡ cost_of p.k (times_of bytes p.version p.k) fork = rw same at l.given in
+          record {
+            said = rw (good.reads, f) (ap gives given);
+            cleared_totals = rw (good.reads, f) l.space.rows;
+            cleared_pivots = rw (good.reads, f) l.space.marks;
+            cleared_orders = rw (good.reads, f) (ap₂ ◌++◌ l.orders (ap (λ m. drop m orders) (ap (λ x. x + x) e ∙ sym (length-replicate (2 ^ p.k + 2 ^ p.k) 0))));
+          }

@@ -1,8 +1,9 @@
 -- M-101: WHAT A FORK COSTS THE OTHER WAY: 'For a path and one fork, give the fork's state in the returned order, the least total among all allowed orders with that fork in the
 -- opposite state, and that total less the returned one.'
-use Rattle.std.specs.Prelude.{◌≡◌, cond, List, ℕ, zero, suc, ◌+◌, ◌-◌, ◌^◌, leb, eqb, length}
+use Rattle.std.specs.Prelude.{◌≡◌, cond, List, ℕ, zero, suc, ◌+◌, ◌-◌, ◌^◌, leb, eqb, length, Result}
+use Rattle.base.specs.declared.Refusal.{Refusal}
 use Rattle.base.specs.Refusal.{wrong_size, no_such_fork}
-use Rattle.base.specs.Outcome.{Outcome, gives, refuses, need, and_then, giving, after}
+use Rattle.base.specs.Outcome.{Outcome, gives, need, and_then, giving, said, after}
 use Rattle.base.specs.Buffer.{Unsigned, SharedUnsigned, at_entry, at_exit, contents}
 use Rattle.path.specs.Path.{Path, read_path}
 use Rattle.times.specs.Table.{entry_of}
@@ -14,8 +15,9 @@ use Rattle.costs.specs.Costs.{held}
 use Rattle.orders.specs.Allowed.{forks_of}
 use Rattle.screen.specs.Records.{is_fork}
 use Rattle.planner.specs.Plan.{cleared}
+use Rattle.planner.specs.HeldFork.{state_of}
 use Rattle.fork_cost.specs.declared.ForkCost.{ForkCost}
-use Rattle.fork_cost.specs.declared.ForkCost.TheVariants.{Dearer, Tie, Refused}
+use Rattle.fork_cost.specs.declared.ForkCost.TheVariants.{Dearer, Tie}
 
 -- 'The reason is 'dearer', without a place ..; Otherwise it is 'tie', with the last place'
 pub data Reason : Type 0 where
@@ -81,21 +83,20 @@ cost_of_fork fork p = need (is_fork p.k fork) no_such_fork (gives (record { k = 
 unfoldable pub fork_cost : (bytes : List ℕ) (highest fork totals pivots orders : ℕ) → Outcome SizedCost
 fork_cost bytes highest fork totals pivots orders = and_then (read_path bytes highest (cost_room totals pivots orders)) (cost_of_fork fork)
 
--- what an answer says
-unfoldable pub said : ForkCost → Outcome Cost
-said (Dearer state total more) = gives (record { state = state; total = total; more = more; reason = dearer })
-said (Tie state total place) = gives (record { state = state; total = total; more = 0; reason = tie place })
-said (Refused n) = refuses n
+-- what an answer tells
+unfoldable pub told : ForkCost → Cost
+told (Dearer exchanged total more) = record { state = state_of exchanged; total = total; more = more; reason = dearer }
+told (Tie exchanged total place) = record { state = state_of exchanged; total = total; more = 0; reason = tie place }
 
 -- the promise: the answer, and the lent work space before and after: 'all 0 after success', 2n numbers of each
-pub record CostIsGiven (o : Outcome SizedCost) (totals pivots orders totals' pivots' orders' : List ℕ) (r : ForkCost) : Type 0 where
-  pub said : said r ≡ giving (λ given. given.cost) o
+pub record CostIsGiven (o : Outcome SizedCost) (totals pivots orders totals' pivots' orders' : List ℕ) (r : Result ForkCost Refusal) : Type 0 where
+  pub said : giving told (said r) ≡ giving (λ given. given.cost) o
   pub cleared_totals : totals' ≡ after o (λ given. cleared given.k) totals
   pub cleared_pivots : pivots' ≡ after o (λ given. cleared given.k) pivots
   pub cleared_orders : orders' ≡ after o (λ given. cleared given.k) orders
 
 -- the same of the call's parameters
-abbrev pub GivesCost : SharedUnsigned → ℕ → ℕ → Unsigned → Unsigned → Unsigned → ForkCost → Type 0
+abbrev pub GivesCost : SharedUnsigned → ℕ → ℕ → Unsigned → Unsigned → Unsigned → Result ForkCost Refusal → Type 0
 GivesCost bytes highest fork totals pivots orders r =
     CostIsGiven (fork_cost (contents bytes) highest fork (length (at_entry totals)) (length (at_entry pivots)) (length (at_entry orders)))
     (at_entry totals) (at_entry pivots) (at_entry orders) (at_exit totals) (at_exit pivots) (at_exit orders) r

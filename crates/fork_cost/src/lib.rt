@@ -10,16 +10,23 @@ mod plans;
 
 ghost use Rattle.fork_cost.specs.Cost.{GivesCost};
 
-use base::{NO_SUCH_FORK, stop_count};
-use screen::{fewer, judge_path};
+use base::{Refusal, stop_count};
+use screen::judge_path;
 
-// What is told of a fork: its state in the returned order, 1 for exchanged, and the least total of the orders that have it the other way. That is so much more than
-// the returned one; or it is the same, and `place` is the last place at which the two orders part. Or the refusal's number.
-#[derive(Clone, Copy)]
+// What is told of a fork: whether the returned order has it exchanged, and the least total of the orders that have it the other way. That is so much more than the
+// returned one; or it is the same, and `place` is the last place at which the two orders part.
+#[derive(Clone, Copy, Debug, PartialEq, Eq)]
 pub enum ForkCost {
-    Dearer { state: u16, total: u64, more: u64 },
-    Tie { state: u16, total: u64, place: u16 },
-    Refused(u16),
+    Dearer {
+        exchanged: bool,
+        total: u64,
+        more: u64,
+    },
+    Tie {
+        exchanged: bool,
+        total: u64,
+        place: u16,
+    },
 }
 
 // What a fork of a path costs the other way, for a caller that knows versions up to `highest`. `totals`, `pivots` and `orders` are work space of 2n numbers each, which
@@ -31,31 +38,14 @@ pub fn fork_cost(
     totals: &mut [u64],
     pivots: &mut [u16],
     orders: &mut [u16],
-) -> ForkCost
+) -> Result<ForkCost, Refusal>
     ensures { GivesCost bytes highest fork totals pivots orders result }
 {
-    let least = fewer(fewer(totals.len(), pivots.len()), orders.len());
-    let head = judge_path(bytes, highest, least / 2);
-    let refused = head.refused;
-    let version = head.version;
-    let k = head.k;
-    if refused != 0 {
-        return ForkCost::Refused(refused);
+    let least = totals.len().min(pivots.len()).min(orders.len());
+    let path = judge_path(bytes, highest, least / 2)?;
+    let n = stop_count(path.k);
+    if fork == 0 || n <= fork as usize {
+        return Err(Refusal::NoSuchFork);
     }
-    if fork == 0 {
-        return ForkCost::Refused(NO_SUCH_FORK);
-    }
-    let n = stop_count(k);
-    if n <= fork as usize {
-        return ForkCost::Refused(NO_SUCH_FORK);
-    }
-    plans::compare(
-        bytes,
-        version,
-        k,
-        fork,
-        totals,
-        pivots,
-        &mut orders[..n + n],
-    )
+    Ok(plans::compare(path, fork, totals, pivots, &mut orders[..n + n]))
 }

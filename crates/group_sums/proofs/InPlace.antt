@@ -1,105 +1,101 @@
--- An exchange of one fork in place: `half` swaps of two numbers, in a buffer that may be longer than the order. Lists with swapped halves are
--- one (`swapped_one`), so swaps place by place make the exchanged order.
-use mathlib.Core.Path.{◌≡◌, refl, sym, ap, ◌∙◌}
+-- An exchange of one fork in place: the halves of a block swapped, in a buffer that may be longer than the order. Lists with swapped halves
+-- are one (`swapped_one`), so the swap makes the exchanged order.
+use mathlib.Core.Path.{◌≡◌, sym, ap, ◌∙◌}
 use mathlib.Core.Bool.{true}
-use mathlib.Core.List.{List, ◌++◌}
-use mathlib.Core.Logic.{◌≢◌}
-use Prim.Native.Nat.{ℕ, zero, suc, ◌+◌, ◌*◌, ◌-◌, ◌^◌, ◌≤◌, ◌<◌}
+use mathlib.Core.List.{List, ◌++◌, append_assoc}
+use Prim.Native.Nat.{ℕ, ◌+◌, ◌*◌, ◌-◌, ◌^◌, ◌≤◌, ◌<◌}
 use native.Mathlib.Decide.{dec_lt}
 use native.Mathlib.Omega.{arith}
-use lib.ListN.{length, get_or, set, length-set, get_or-append}
-use lib.Seq.{get_or-set_same, get_or-set_other, ext_get_or, set-append_left}
+use lib.ListN.{length, get_or, take, drop, length-append, length-drop, get_or-append}
+use lib.Seq.{ext_get_or, get_or-append_right, length-take-le}
+use Rattle.std.proofs.lemmas.List.{get_or-take, get_or-drop, take-append-le, drop-append-le}
 use Rattle.orders.specs.Allowed.{is_allowed}
 use Rattle.orders.proofs.Allowed.{allowed-long}
-use Rattle.orders.proofs.Same.{equal}
 use Rattle.groups.specs.Exchange.{exchange_fork}
 use Rattle.groups.specs.Group.{half_size, group_start}
 use Rattle.groups.proofs.Swap.{Swapped}
 use Rattle.groups.proofs.Exchange.{length-exchange}
 use Rattle.groups.proofs.Sides.{fork-swaps}
-use Rattle.group_sums.specs.Swaps.{swap_two, swap_to}
+use Rattle.group_sums.specs.Swaps.{block_from, halves_swapped}
 
--- ---- two numbers change places
-
-module _ (o : List ℕ) (i j : ℕ) (l : i < j) (b : j < length o) where
-  pub length-swap_two : length (swap_two o i j) ≡ length o
-  length-swap_two = length-set (set o i (get_or o j 0)) j (get_or o i 0) ∙ length-set o i (get_or o j 0)
-
-  pub swap_two-first : get_or (swap_two o i j) i 0 ≡ get_or o j 0
-  swap_two-first = get_or-set_other (set o i (get_or o j 0)) j i (get_or o i 0) 0 (λ e. absurd (omega arith)) ∙ get_or-set_same o i (get_or o j 0) 0 (omega arith)
-
-  pub swap_two-second : get_or (swap_two o i j) j 0 ≡ get_or o i 0
-  swap_two-second = get_or-set_same (set o i (get_or o j 0)) j (get_or o i 0) 0 (rw (length-set o i (get_or o j 0)) b)
-
-  pub swap_two-other : (p : ℕ) → p ≢ i → p ≢ j → get_or (swap_two o i j) p 0 ≡ get_or o p 0
-  swap_two-other p x y = get_or-set_other (set o i (get_or o j 0)) j p (get_or o i 0) 0 y ∙ get_or-set_other o i p (get_or o j 0) 0 x
-
--- ---- half places change places
+-- ---- the halves swapped
 
 module _ (a half : ℕ) (o : List ℕ) (fits : a + 2 * half ≤ length o) where
-  -- after x swaps
-  record After (x : ℕ) (s : List ℕ) : Type 0 where
-    pub long : length s ≡ length o
-    pub left : (y : ℕ) → y < x → get_or s (a + y) 0 ≡ get_or o (a + half + y) 0
-    pub right : (y : ℕ) → y < x → get_or s (a + half + y) 0 ≡ get_or o (a + y) 0
-    pub rest : (p : ℕ) → ((y : ℕ) → y < x → p ≢ a + y) → ((y : ℕ) → y < x → p ≢ a + half + y) → get_or s p 0 ≡ get_or o p 0
+  block-long : length (block_from a half o) ≡ 2 * half
+  block-long = length-take-le (2 * half) (drop a o) (rw (length-drop a o) (omega arith))
 
-  after-suc : (x : ℕ) (s : List ℕ) → x < half → After x s → After (suc x) (swap_two s (a + x) (a + half + x))
-  after-suc x s l w = record { long = length-swap_two s (a + x) (a + half + x) lt room ∙ w.long; left = left'; right = right'; rest = rest' }
-    where
-      lt : a + x < a + half + x
-      lt = omega arith
+  -- its two parts, and what they have
+  second-long : length (drop half (block_from a half o)) ≡ half
+  second-long = rw (length-drop half (block_from a half o), block-long) (omega arith)
 
-      room : a + half + x < length s
-      room = omega (arith, w.long)
+  first-long : length (take half (block_from a half o)) ≡ half
+  first-long = length-take-le half (block_from a half o) (omega (arith, block-long))
 
-      here : get_or s (a + x) 0 ≡ get_or o (a + x) 0
-      here = w.rest (a + x) (λ y b e. absurd (omega arith)) (λ y b e. absurd (omega arith))
+  halves : List ℕ
+  halves = drop half (block_from a half o) ++ take half (block_from a half o)
 
-      there : get_or s (a + half + x) 0 ≡ get_or o (a + half + x) 0
-      there = w.rest (a + half + x) (λ y b e. absurd (omega arith)) (λ y b e. absurd (omega arith))
+  halves-long : length halves ≡ 2 * half
+  unfolding halves
+  halves-long = length-append (drop half (block_from a half o)) (take half (block_from a half o)) ∙ omega (arith, first-long, second-long)
 
-      left' : (y : ℕ) → y < suc x → get_or (swap_two s (a + x) (a + half + x)) (a + y) 0 ≡ get_or o (a + half + y) 0
-      left' y b = go (equal y x)
-        where
-          go : Dec (y ≡ x) → get_or (swap_two s (a + x) (a + half + x)) (a + y) 0 ≡ get_or o (a + half + y) 0
-          go (yes e) = rw e (swap_two-first s (a + x) (a + half + x) lt room ∙ there)
-          go (no e) = swap_two-other s (a + x) (a + half + x) lt room (a + y) (λ q. e (omega arith)) (λ q. absurd (omega arith)) ∙ w.left y (omega arith)
+  in-block : (x : ℕ) → x < 2 * half → get_or (block_from a half o) x 0 ≡ get_or o (a + x) 0
+  in-block x l = get_or-take (2 * half) (drop a o) x 0 l ∙ get_or-drop a o x 0
 
-      right' : (y : ℕ) → y < suc x → get_or (swap_two s (a + x) (a + half + x)) (a + half + y) 0 ≡ get_or o (a + y) 0
-      right' y b = go (equal y x)
-        where
-          go : Dec (y ≡ x) → get_or (swap_two s (a + x) (a + half + x)) (a + half + y) 0 ≡ get_or o (a + y) 0
-          go (yes e) = rw e (swap_two-second s (a + x) (a + half + x) lt room ∙ here)
-          go (no e) = swap_two-other s (a + x) (a + half + x) lt room (a + half + y) (λ q. absurd (omega arith)) (λ q. e (omega arith)) ∙ w.right y (omega arith)
+  -- a place from a on
+  behind : (x : ℕ) → get_or (halves_swapped a half o) (a + x) 0 ≡ get_or (halves ++ drop (2 * half) (drop a o)) x 0
+  unfolding halves_swapped halves
+  behind x =
+      let l : length (take a o) ≡ a = length-take-le a o (omega arith) in
+      get_or-append_right (take a o) (halves ++ drop (2 * half) (drop a o)) (a + x) 0 (omega (arith, l))
+      ∙ ap (λ (i : ℕ). get_or (halves ++ drop (2 * half) (drop a o)) i 0) (omega (arith, l))
 
-      rest' : (p : ℕ) → ((y : ℕ) → y < suc x → p ≢ a + y) → ((y : ℕ) → y < suc x → p ≢ a + half + y)
-          → get_or (swap_two s (a + x) (a + half + x)) p 0 ≡ get_or o p 0
-      rest' p m n = swap_two-other s (a + x) (a + half + x) lt room p (m x (omega arith)) (n x (omega arith))
-          ∙ w.rest p (λ y b. m y (omega arith)) (λ y b. n y (omega arith))
+  left : (x : ℕ) → x < half → get_or (halves_swapped a half o) (a + x) 0 ≡ get_or o (a + half + x) 0
+  unfolding halves
+  left x l =
+      let e : a + (half + x) ≡ a + half + x = omega arith in
+      behind x ∙ get_or-append halves (drop (2 * half) (drop a o)) 0 x (omega (arith, halves-long))
+      ∙ get_or-append (drop half (block_from a half o)) (take half (block_from a half o)) 0 x (omega (arith, second-long))
+      ∙ get_or-drop half (block_from a half o) x 0 ∙ in-block (half + x) (omega arith) ∙ ap (λ (i : ℕ). get_or o i 0) e
 
-  after : (x : ℕ) → x ≤ half → After x (swap_to a half o x)
-  unfolding swap_to
-  after zero l = record { long = refl; left = λ y b. absurd (omega arith); right = λ y b. absurd (omega arith); rest = λ p _ _. refl }
-  after (suc x) l = after-suc x (swap_to a half o x) l (after x (omega arith))
+  right : (x : ℕ) → x < half → get_or (halves_swapped a half o) (a + half + x) 0 ≡ get_or o (a + x) 0
+  unfolding halves
+  right x l =
+      let e : a + half + x ≡ a + (half + x) = omega arith in
+      let f : half + x - length (drop half (block_from a half o)) ≡ x = omega (arith, second-long) in
+      ap (λ (i : ℕ). get_or (halves_swapped a half o) i 0) e
+      ∙ behind (half + x) ∙ get_or-append halves (drop (2 * half) (drop a o)) 0 (half + x) (omega (arith, halves-long))
+      ∙ get_or-append_right (drop half (block_from a half o)) (take half (block_from a half o)) (half + x) 0 (omega (arith, second-long))
+      ∙ ap (λ (i : ℕ). get_or (take half (block_from a half o)) i 0) f
+      ∙ get_or-take half (block_from a half o) x 0 l ∙ in-block x (omega arith)
+
+  before : (p : ℕ) → p < a → get_or (halves_swapped a half o) p 0 ≡ get_or o p 0
+  unfolding halves_swapped
+  before p l =
+      get_or-append (take a o) _ 0 p (omega (arith, length-take-le a o (omega arith))) ∙ get_or-take a o p 0 l
+
+  after : (p : ℕ) → a + 2 * half ≤ p → get_or (halves_swapped a half o) p 0 ≡ get_or o p 0
+  after p l =
+      let x : ℕ = p - a in
+      let e : a + (p - a) ≡ p = omega arith in
+      let f : a + (2 * half + (p - a - 2 * half)) ≡ p = omega arith in
+      let g : p - a - length halves ≡ p - a - 2 * half = omega (arith, halves-long) in
+      ap (λ (i : ℕ). get_or (halves_swapped a half o) i 0) (sym e) ∙ behind (p - a)
+      ∙ get_or-append_right halves (drop (2 * half) (drop a o)) (p - a) 0 (omega (arith, halves-long))
+      ∙ ap (λ (i : ℕ). get_or (drop (2 * half) (drop a o)) i 0) g
+      ∙ get_or-drop (2 * half) (drop a o) (p - a - 2 * half) 0 ∙ get_or-drop a o (2 * half + (p - a - 2 * half)) 0
+      ∙ ap (λ (i : ℕ). get_or o i 0) f
 
   -- the list keeps its length
-  pub length-swap_to : (x : ℕ) → x ≤ half → length (swap_to a half o x) ≡ length o
-  length-swap_to x l = (after x l).long
+  pub length-halves_swapped : length (halves_swapped a half o) ≡ length o
+  unfolding halves_swapped halves
+  length-halves_swapped =
+      length-append (take a o) (halves ++ drop (2 * half) (drop a o))
+      ∙ omega (arith, length-take-le a o (omega arith), length-append halves (drop (2 * half) (drop a o)), halves-long, length-drop (2 * half) (drop a o), length-drop a o)
 
-  -- after all swaps the halves are swapped
-  pub swap_to-swaps : Swapped (length o) a half o (swap_to a half o half)
-  swap_to-swaps =
-      let w : After half (swap_to a half o half) = after half (omega arith) in
-      record {
-        fits = fits;
-        left = w.left;
-        right = w.right;
-        before = λ p l. w.rest p (λ y b e. absurd (omega arith)) (λ y b e. absurd (omega arith));
-        after = λ p l _. w.rest p (λ y b e. absurd (omega arith)) (λ y b e. absurd (omega arith));
-      }
+  pub halves_swapped-swaps : Swapped (length o) a half o (halves_swapped a half o)
+  halves_swapped-swaps = record { fits = fits; left = left; right = right; before = before; after = λ p l _. after p l }
 
--- ---- the loop makes the exchanged order
+-- ---- the exchanged order
 
 -- lists with the same halves swapped are one
 pub swapped_one : (n a half : ℕ) (o s u : List ℕ) → Swapped n a half o s → Swapped n a half o u → length s ≡ n → length u ≡ n → s ≡ u
@@ -117,29 +113,26 @@ swapped_one n a half o s u x y e f = ext_get_or 0 s u (e ∙ sym f) (λ p l. eac
     each p l (no b) (no c) (no d) = x.after p (omega arith) l ∙ sym (y.after p (omega arith) l)
 
 -- what is behind the order in the buffer stays
-swap_two-append : (s r : List ℕ) (i j : ℕ) → i < length s → j < length s → swap_two (s ++ r) i j ≡ swap_two s i j ++ r
-swap_two-append s r i j b c =
-    let e : get_or (s ++ r) i 0 ≡ get_or s i 0 = get_or-append s r 0 i b in
-    let f : get_or (s ++ r) j 0 ≡ get_or s j 0 = get_or-append s r 0 j c in
-    rw (e, f, set-append_left s r i (get_or s j 0) b) (set-append_left (set s i (get_or s j 0)) r j (get_or s i 0) (rw (length-set s i (get_or s j 0)) c))
+pub halves_swapped-append : (a half : ℕ) (o r : List ℕ) → a + 2 * half ≤ length o → halves_swapped a half (o ++ r) ≡ halves_swapped a half o ++ r
+unfolding halves_swapped
+halves_swapped-append a half o r fits =
+    let l : a ≤ length o = omega arith in
+    let m : 2 * half ≤ length (drop a o) = rw (length-drop a o) (omega arith) in
+    let e : take a (o ++ r) ≡ take a o = take-append-le a o r l in
+    let f : drop a (o ++ r) ≡ drop a o ++ r = drop-append-le a o r l in
+    let g : take (2 * half) (drop a o ++ r) ≡ take (2 * half) (drop a o) = take-append-le (2 * half) (drop a o) r m in
+    let h : drop (2 * half) (drop a o ++ r) ≡ drop (2 * half) (drop a o) ++ r = drop-append-le (2 * half) (drop a o) r m in
+    rw (e, f, g, h) (simp append_assoc)
 
-pub swap_to-append : (a half : ℕ) (o r : List ℕ) (x : ℕ) → a + 2 * half ≤ length o → x ≤ half → swap_to a half (o ++ r) x ≡ swap_to a half o x ++ r
-unfolding swap_to
-swap_to-append a half o r zero fits l = refl
-swap_to-append a half o r (suc x) fits l =
-    let s : List ℕ = swap_to a half o x in
-    let e : length s ≡ length o = length-swap_to a half o fits x (omega arith) in
-    rw (swap_to-append a half o r x fits (omega arith)) (swap_two-append s r (a + x) (a + half + x) (omega arith) (omega arith))
-
--- the loop over a buffer that starts with an allowed order
+-- the halves swapped in a buffer that starts with an allowed order
 pub swap-exchanges : (k : ℕ) (o r : List ℕ) (v : ℕ) → is_allowed k o ≡ true → 1 ≤ v → v < 2 ^ k
-    → swap_to (group_start k o v) (half_size k v) (o ++ r) (half_size k v) ≡ exchange_fork k o v ++ r
+    → halves_swapped (group_start k o v) (half_size k v) (o ++ r) ≡ exchange_fork k o v ++ r
 swap-exchanges k o r v allowed a b =
     let w : Swapped (2 ^ k) (group_start k o v) (half_size k v) o (exchange_fork k o v) = fork-swaps k o allowed v a b in
     let n : length o ≡ 2 ^ k = allowed-long k o allowed in
     let fits : group_start k o v + 2 * half_size k v ≤ length o = omega (arith, w.fits) in
-    let s : List ℕ = swap_to (group_start k o v) (half_size k v) o (half_size k v) in
+    let s : List ℕ = halves_swapped (group_start k o v) (half_size k v) o in
     let e : s ≡ exchange_fork k o v
-    = swapped_one (2 ^ k) (group_start k o v) (half_size k v) o s (exchange_fork k o v) (rw n at (swap_to-swaps (group_start k o v) (half_size k v) o fits)) w
-    (length-swap_to (group_start k o v) (half_size k v) o fits (half_size k v) (omega arith) ∙ n) (length-exchange k o (2 ^ v)) in
-    swap_to-append (group_start k o v) (half_size k v) o r (half_size k v) fits (omega arith) ∙ ap (λ (l : List ℕ). l ++ r) e
+    = swapped_one (2 ^ k) (group_start k o v) (half_size k v) o s (exchange_fork k o v) (rw n at (halves_swapped-swaps (group_start k o v) (half_size k v) o fits)) w
+    (length-halves_swapped (group_start k o v) (half_size k v) o fits ∙ n) (length-exchange k o (2 ^ v)) in
+    halves_swapped-append (group_start k o v) (half_size k v) o r fits ∙ ap (λ (l : List ℕ). l ++ r) e

@@ -1,11 +1,10 @@
--- The halves of a block swapped in place, two numbers at a time.
-use Rattle.std.specs.Prelude.{List, ℕ, zero, suc, ◌+◌, get_or, set}
+-- The halves of a block swapped in place.
+use Rattle.std.specs.Prelude.{List, ◌++◌, ℕ, ◌*◌, take, drop}
 
--- the numbers at i and j change places
-abbrev pub swap_two : List ℕ → ℕ → ℕ → List ℕ
-swap_two o i j = set (set o i (get_or o j 0)) j (get_or o i 0)
+-- the block of 2 half places from a on
+abbrev pub block_from : (a half : ℕ) → List ℕ → List ℕ
+block_from a half o = take (2 * half) (drop a o)
 
--- the first x places of the block from a on, whose halves have `half` places each, have changed places with those half behind them
-unfoldable pub swap_to : (a half : ℕ) → List ℕ → ℕ → List ℕ
-swap_to a half o zero = o
-swap_to a half o (suc x) = swap_two (swap_to a half o x) (a + x) (a + half + x)
+-- its halves, of `half` places each, have changed places
+unfoldable pub halves_swapped : (a half : ℕ) → List ℕ → List ℕ
+halves_swapped a half o = take a o ++ ((drop half (block_from a half o) ++ take half (block_from a half o)) ++ drop (2 * half) (drop a o))

@@ -9,13 +9,13 @@ use lib.Bits.{bit_xor}
 use lib.ListN.{length, take}
 use lib.Pow.{pow_pos}
 use lib.Seq.{take_all, length-take-le}
+use Rattle.std.specs.Prelude.{Result, Ok}
+use Rattle.base.specs.declared.Refusal.{Refusal}
 use Rattle.base.specs.Outcome.{over}
 use Rattle.base.proofs.Outcome.{over-front}
 use Rattle.records.specs.Field.{are_bytes}
 use Rattle.records.proofs.FieldLaws.{length-bytes_of, are_bytes-take}
 use Rattle.tree.specs.Fork.{side}
-use Rattle.orders.specs.declared.OrderMade.{OrderMade}
-use Rattle.orders.specs.declared.OrderMade.TheVariants.{Made}
 use Rattle.orders.specs.Bits.{byte_count, bit_string, set_of_bits, only_forks}
 use Rattle.orders.specs.Exchange.{exchange, inverted, OrderIsExchanged}
 use Rattle.orders.specs.Lent.{order_in, forks_in, JudgedOrder}
@@ -53,9 +53,9 @@ record Exchanged (k : ℕ) (order bits room out : List ℕ) : Type 0 where
   pub stops : order_in k out ≡ exchange k (order_in k order) (forks_in k bits)
   pub again : JudgedOrder k out
 
-exchanged : (k : ℕ) (order bits room out : List ℕ) → OrderIsExchanged k order bits room out Made → Exchanged k order bits room out
+exchanged : (k : ℕ) (order bits room out : List ℕ) → OrderIsExchanged k order bits room out (Ok tt) → Exchanged k order bits room out
 exchanged k order bits room out p =
-    let w = when-exchanged k order bits room out Made p refl in
+    let w = when-exchanged k order bits room out p in
     let o : List ℕ = order_in k order in
     let X : ℕ = forks_in k bits in
     record {
@@ -65,28 +65,28 @@ exchanged k order bits room out p =
     }
 
 -- what holds of a call on an order that passes, with a string of forks and a long enough output: it is accepted, and makes the order u
-module _ (k : ℕ) (order bits room out : List ℕ) (r : OrderMade) where
+module _ (k : ℕ) (order bits room out : List ℕ) (r : Result Unit Refusal) where
   makes : (u : List ℕ) → JudgedOrder k order → byte_count (2 ^ k) ≤ length bits → only_forks k (forks_in k bits) ≡ true → 2 ^ k ≤ length room
-      → exchange k (order_in k order) (forks_in k bits) ≡ u → OrderIsExchanged k order bits room out r → (r ≡ Made) × (out ≡ over u room)
+      → exchange k (order_in k order) (forks_in k bits) ≡ u → OrderIsExchanged k order bits room out r → (r ≡ Ok tt) × (out ≡ over u room)
   makes u j long only fits e p =
       let w = exchanged-when k order bits room out r (record { stops = j; forks = record { small = j.small; long = long; places = fits; only = only } }) p in
       (w.0, w.1 ∙ ap (λ (l : List ℕ). over l room) e)
 
 -- the empty set changes nothing
-pub exchanged-none : (k : ℕ) (order bits room out : List ℕ) (r : OrderMade) → JudgedOrder k order → byte_count (2 ^ k) ≤ length bits → forks_in k bits ≡ 0
-    → 2 ^ k ≤ length room → OrderIsExchanged k order bits room out r → (r ≡ Made) × (out ≡ over (order_in k order) room)
+pub exchanged-none : (k : ℕ) (order bits room out : List ℕ) (r : Result Unit Refusal) → JudgedOrder k order → byte_count (2 ^ k) ≤ length bits → forks_in k bits ≡ 0
+    → 2 ^ k ≤ length room → OrderIsExchanged k order bits room out r → (r ≡ Ok tt) × (out ≡ over (order_in k order) room)
 exchanged-none k order bits room out r j long e fits p =
     makes k order bits room out r (order_in k order) j long (rw e (forks-only k 0 refl (pow_pos (2 ^ k)))) fits
     (rw e (exchange-none k (order_in k order) j.allowed)) p
 
 -- ---- two calls
 
-module _ (k : ℕ) (order X room first : List ℕ) (call : OrderIsExchanged k order X room first Made) where
+module _ (k : ℕ) (order X room first : List ℕ) (call : OrderIsExchanged k order X room first (Ok tt)) where
   -- 'one set followed by another equals their symmetric difference': after two accepted calls one call with the exclusive or of the two
   -- strings is accepted, and makes the same order
-  pub exchanged-twice : (Y room₂ second room₃ whole : List ℕ) (r : OrderMade) → are_bytes X ≡ true → are_bytes Y ≡ true
-      → OrderIsExchanged k first Y room₂ second Made → 2 ^ k ≤ length room₃ → OrderIsExchanged k order (inverted (byte_count (2 ^ k)) X Y) room₃ whole r
-      → (r ≡ Made) × (whole ≡ over (order_in k second) room₃)
+  pub exchanged-twice : (Y room₂ second room₃ whole : List ℕ) (r : Result Unit Refusal) → are_bytes X ≡ true → are_bytes Y ≡ true
+      → OrderIsExchanged k first Y room₂ second (Ok tt) → 2 ^ k ≤ length room₃ → OrderIsExchanged k order (inverted (byte_count (2 ^ k)) X Y) room₃ whole r
+      → (r ≡ Ok tt) × (whole ≡ over (order_in k second) room₃)
   exchanged-twice Y room₂ second room₃ whole r a b call₂ fits p =
       let f = exchanged k order X room first call in
       let g = exchanged k first Y room₂ second call₂ in
@@ -97,9 +97,9 @@ module _ (k : ℕ) (order X room first : List ℕ) (call : OrderIsExchanged k or
       (rw (set, g.stops, f.stops) (sym (exchange-twice k (order_in k order) (forks_in k X) (forks_in k Y)))) p
 
   -- 'either may come first': after two accepted calls the same strings in the other sequence are accepted too, and make the same order
-  pub exchanged-either : (Y room₂ second room₃ third room₄ fourth : List ℕ) (r s : OrderMade) → OrderIsExchanged k first Y room₂ second Made
+  pub exchanged-either : (Y room₂ second room₃ third room₄ fourth : List ℕ) (r s : Result Unit Refusal) → OrderIsExchanged k first Y room₂ second (Ok tt)
       → 2 ^ k ≤ length room₃ → OrderIsExchanged k order Y room₃ third r → 2 ^ k ≤ length room₄ → OrderIsExchanged k third X room₄ fourth s
-      → (r ≡ Made) × (s ≡ Made) × (fourth ≡ over (order_in k second) room₄)
+      → (r ≡ Ok tt) × (s ≡ Ok tt) × (fourth ≡ over (order_in k second) room₄)
   exchanged-either Y room₂ second room₃ third room₄ fourth r s call₂ fits₃ p fits₄ q =
       let f = exchanged k order X room first call in
       let g = exchanged k first Y room₂ second call₂ in
@@ -112,8 +112,8 @@ module _ (k : ℕ) (order X room first : List ℕ) (call : OrderIsExchanged k or
       (w.0, z.0, z.1)
 
   -- 'a set used twice gives the order back'
-  pub exchanged-back : (room₂ second : List ℕ) (r : OrderMade) → 2 ^ k ≤ length room₂ → OrderIsExchanged k first X room₂ second r
-      → (r ≡ Made) × (second ≡ over (order_in k order) room₂)
+  pub exchanged-back : (room₂ second : List ℕ) (r : Result Unit Refusal) → 2 ^ k ≤ length room₂ → OrderIsExchanged k first X room₂ second r
+      → (r ≡ Ok tt) × (second ≡ over (order_in k order) room₂)
   exchanged-back room₂ second r fits p =
       let f = exchanged k order X room first call in
       makes k first X room₂ second r (order_in k order) f.again f.judged.forks.long f.judged.forks.only fits
@@ -123,8 +123,8 @@ module _ (k : ℕ) (order X room first : List ℕ) (call : OrderIsExchanged k or
 
 module _ (k : ℕ) (order other : List ℕ) (from : JudgedOrder k order) (to : JudgedOrder k other) where
   -- 'from any allowed order exactly one set leads to any other': the call with the string of that set is accepted, and makes the other order
-  pub exchanged-leads : (room out : List ℕ) (r : OrderMade) → 2 ^ k ≤ length room
-      → OrderIsExchanged k order (bit_string k (leading k (order_in k order) (order_in k other))) room out r → (r ≡ Made) × (out ≡ over (order_in k other) room)
+  pub exchanged-leads : (room out : List ℕ) (r : Result Unit Refusal) → 2 ^ k ≤ length room
+      → OrderIsExchanged k order (bit_string k (leading k (order_in k order) (order_in k other))) room out r → (r ≡ Ok tt) × (out ≡ over (order_in k other) room)
   exchanged-leads room out r fits p =
       let o : List ℕ = order_in k order in
       let u : List ℕ = order_in k other in
@@ -134,7 +134,7 @@ module _ (k : ℕ) (order other : List ℕ) (from : JudgedOrder k order) (to : J
       (rw set (leading-leads k o from.allowed u to.allowed)) p
 
   -- and a call that made the other order had that string
-  pub exchanged-only : (bits room out : List ℕ) → are_bytes bits ≡ true → OrderIsExchanged k order bits room out Made → order_in k out ≡ order_in k other
+  pub exchanged-only : (bits room out : List ℕ) → are_bytes bits ≡ true → OrderIsExchanged k order bits room out (Ok tt) → order_in k out ≡ order_in k other
       → take (byte_count (2 ^ k)) bits ≡ bit_string k (leading k (order_in k order) (order_in k other))
   exchanged-only bits room out bytes p e =
       let f = exchanged k order bits room out p in
@@ -145,9 +145,9 @@ module _ (k : ℕ) (order other : List ℕ) (from : JudgedOrder k order) (to : J
 -- ---- one fork
 
 -- the call with the string of fork v alone is accepted, and swaps the blocks of places of its two sides
-pub exchanged-fork : (k : ℕ) (order : List ℕ) (v : ℕ) (room out : List ℕ) (r : OrderMade) → JudgedOrder k order → 1 ≤ v → v < 2 ^ k
+pub exchanged-fork : (k : ℕ) (order : List ℕ) (v : ℕ) (room out : List ℕ) (r : Result Unit Refusal) → JudgedOrder k order → 1 ≤ v → v < 2 ^ k
     → 2 ^ k ≤ length room → OrderIsExchanged k order (bit_string k (2 ^ v)) room out r
-    → (r ≡ Made) × BlocksSwapped (2 ^ k) (group_start k (order_in k order) (side v 0)) (group_start k (order_in k order) (side v 1)) (group_size k (side v 0)) (order_in k order) (order_in k out)
+    → (r ≡ Ok tt) × BlocksSwapped (2 ^ k) (group_start k (order_in k order) (side v 0)) (group_start k (order_in k order) (side v 1)) (group_size k (side v 0)) (order_in k order) (order_in k out)
 exchanged-fork k order v room out r j low high fits p =
     let o : List ℕ = order_in k order in
     let only = fork-forks k v low high in

@@ -1,5 +1,6 @@
 -- Laws of the jobs.
 pub mod Limits
+pub mod Heads
 pub mod Planning
 pub mod Checking
 pub mod Rewriting

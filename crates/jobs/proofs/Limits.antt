@@ -7,7 +7,8 @@ use lib.Pow.{pow_mono}
 use lib.Dec.{leb}
 use borrow.Author.Tests.{le-leb, lt-leb, leb-true}
 use Rattle.base.specs.Refusal.{wrong_size}
-use Rattle.base.specs.Outcome.{gives, refuses, number}
+use mathlib.Core.Bool.{Bool, true, false}
+use Rattle.base.specs.Outcome.{gives, refuses, need, number}
 use Rattle.base.proofs.Outcome.{passed}
 use Rattle.order_file.specs.File.{file_size}
 use Rattle.jobs.specs.Limit.{job_max_k, small_enough}
@@ -32,8 +33,12 @@ pub large-fails : (k : ℕ) → job_max_k < k → small_enough k ≡ refuses 8
 large-fails k h = rw (lt-leb _ _ h)
 
 module _ (room k : ℕ) where
-  pub plan-large : job_max_k < k → plan_test room k ≡ refuses 8
-  plan-large h = rw (lt-leb _ _ h)
+  pub plan-large : (n : ℕ) → small_enough k ≡ refuses n → plan_test room k ≡ refuses n
+  plan-large n e = by (leb k job_max_k) e
+    where
+      by : (b : Bool) → need {A = Unit {0}} b 8 (gives (tt {0})) ≡ refuses n → need {A = Unit {0}} b 8 (need (leb (file_size (2 ^ k)) room) 8 (gives (tt {0}))) ≡ refuses n
+      by true e = let z : ◌≡◌ {A = ℕ} 0 1 = cc in absurd (omega arith)
+      by false e = e
 
   pub plan-short : k ≤ job_max_k → room < file_size (2 ^ k) → plan_test room k ≡ refuses 8
   plan-short h s = rw (le-leb _ _ h, lt-leb _ _ s)

@@ -6,28 +6,26 @@ use Prim.Native.Nat.{ℕ, ◌+◌, ◌*◌, ◌^◌, ◌≤◌}
 use native.Mathlib.Omega.{arith}
 use lib.ListN.{length, take}
 use borrow.Author.Tests.{le-leb, eq-eqb}
+use Rattle.std.specs.Prelude.{Result, Ok, Err}
+use Rattle.base.specs.declared.Refusal.{Refusal}
+use Rattle.base.specs.Refusal.{refusal_number}
 use Rattle.base.specs.Outcome.{Outcome, gives, refuses, giving, after, over}
 use Rattle.base.proofs.Lists.{length-tabulate}
 use Rattle.base.proofs.Outcome.{giving-giving, over-front, refused-giving}
 use Rattle.stop.specs.declared.Stop.{Stop}
 use Rattle.path.specs.Path.{Path, path, read_path, any_size, body_after_head, stop_in, stops_in}
-use Rattle.times.specs.declared.TableMade.{TableMade}
-use Rattle.times.specs.declared.TableMade.TheVariants as made
 use Rattle.times.specs.Table.{entry_of, table_of, table_from, TableIsMade}
-use Rattle.times.specs.Table as times
 use Rattle.times.proofs.Table.{by-stops, accepted-path, square-table, when-made, made-when}
 use Rattle.tree.specs.Total.{entry}
 use Rattle.tree.specs.Open.{wanted}
 use Rattle.tree.proofs.Open.{wanted-allowed, length-wanted, wanted-shortest}
 use Rattle.planner.specs.declared.Planned.{Planned}
-use Rattle.planner.specs.Plan.{plan_fits, plan_room, plan_order, OrderIsPlanned}
+use Rattle.planner.specs.Plan.{plan_fits, plan_room, plan_order, wanted_plan, reported, OrderIsPlanned}
 use Rattle.orders.specs.Allowed.{is_allowed}
 use Rattle.orders.proofs.Allowed.{is_allowed-iff}
 use Rattle.orders.proofs.Lent.{holds-order}
-use Rattle.order_file.specs.declared.FileWritten.{FileWritten}
-use Rattle.order_file.specs.declared.FileWritten.TheVariants.{Refused}
 use Rattle.order_file.specs.File.{file_for}
-use Rattle.order_file.specs.Write.{said, write_file, FileIsWritten}
+use Rattle.order_file.specs.Write.{write_file, FileIsWritten}
 use Rattle.order_file.proofs.Calls.{Writes, write-gives}
 use Rattle.path_plan.specs.PathPlan.{wanted_order, wanted_total}
 use Rattle.path_plan.proofs.Claim.{table-wanted, table-total}
@@ -39,11 +37,10 @@ use Rattle.jobs.proofs.Limits.{pow-le-64}
 
 -- ---- a file that is left
 
-pub left-refused : (o : Outcome (List ℕ)) (before : List ℕ) (n : ℕ) → o ≡ refuses n → FileIsLeft o before before (Refused n)
-unfolding said
-left-refused o before n e = record { said = rw e; left = rw e }
+pub left-refused : (o : Outcome (List ℕ)) (before : List ℕ) (r : Refusal) → o ≡ refuses (refusal_number r) → FileIsLeft o before before (Err r)
+left-refused o before r e = record { said = rw e; left = rw e }
 
-pub left-same : (o o' : Outcome (List ℕ)) (before afterwards : List ℕ) (r : FileWritten) → o ≡ o' → FileIsLeft o before afterwards r → FileIsLeft o' before afterwards r
+pub left-same : (o o' : Outcome (List ℕ)) (before afterwards : List ℕ) (r : Result ℕ Refusal) → o ≡ o' → FileIsLeft o before afterwards r → FileIsLeft o' before afterwards r
 left-same o o' before afterwards r e p = rw e at p
 
 -- ---- by a table
@@ -56,7 +53,7 @@ room k table small square =
     rw (le-leb k 10 (omega arith), eq-eqb _ _ square, le-leb (2 ^ k) 64 n, le-leb (2 ^ k + 2 ^ k) 128 (omega arith))
 
 -- the file of the order that the planner left
-pub table-filed : (k : ℕ) (table order totals pivots order' totals' pivots' before afterwards : List ℕ) (p : Planned) (r : FileWritten)
+pub table-filed : (k : ℕ) (table order totals pivots order' totals' pivots' before afterwards : List ℕ) (p : Result Planned Refusal) (r : Result ℕ Refusal)
     → Ready k (length table) (length before) → length order ≡ 64 → length totals ≡ 128 → length pivots ≡ 128
     → OrderIsPlanned k (plan_order k table (length order) (length totals) (length pivots)) order totals pivots order' totals' pivots' p
     → FileIsWritten k order' table before afterwards r
@@ -71,6 +68,16 @@ table-filed k table order totals pivots order' totals' pivots' before afterwards
     let o : write_file k order' table (length before) ≡ gives (file_for k t (wanted k t)) = write-gives k order' table (length before) writes ∙ ap (λ (u : List ℕ). gives (file_for k t u)) front in
     record { said = rw o at filed.said; left = rw o at filed.left }
 
+-- and it does not refuse
+pub never-refused : {A : Type 0} (k : ℕ) (table order totals pivots order' totals' pivots' : List ℕ) (r : Refusal) (out : ℕ)
+    → Ready k (length table) out → length order ≡ 64 → length totals ≡ 128 → length pivots ≡ 128
+    → OrderIsPlanned k (plan_order k table (length order) (length totals) (length pivots)) order totals pivots order' totals' pivots' (Err r) → A
+never-refused k table order totals pivots order' totals' pivots' r out ready eo et ep planned =
+    let fits : plan_room k (length table) (length order) (length totals) (length pivots) ≡ gives tt = rw (eo, et, ep) (room k (length table) ready.small ready.square) in
+    let answer : refuses (refusal_number r) ≡ gives (reported k (wanted_plan k table)) = rw fits at planned.said in
+    let z : ◌≡◌ {A = ℕ} 0 1 = cc in
+    absurd (omega arith)
+
 -- ---- from path bytes
 
 -- the file by the table of some stops is that by their travel times
@@ -84,9 +91,9 @@ module _ (bytes : List ℕ) (version k : ℕ) (table table' : List ℕ) (out : �
   by-body = by-stops bytes version k (length table) (omega (arith, ready.small)) ready.square
 
   -- a table that is not made: its number is that of the stops
-  pub not_made : (n : ℕ) → TableIsMade (table_from bytes version k (length table)) table table' (made.Refused n) → file_after_head bytes version k ≡ refuses n
-  unfolding times.said
-  not_made n p =
+  pub not_made : (r : Refusal) → TableIsMade (table_from bytes version k (length table)) table table' (Err r) → file_after_head bytes version k ≡ refuses (refusal_number r)
+  not_made r p =
+      let n : ℕ = refusal_number r in
       let s : refuses n ≡ giving (λ (t : List ℕ). tt) (giving table_of (body_after_head bytes version k)) = rw by-body at p.said in
       let body : body_after_head bytes version k ≡ refuses n = refused-giving table_of (body_after_head bytes version k) n (refused-giving (λ (t : List ℕ). tt) (giving table_of (body_after_head bytes version k)) n (sym s)) in
       rw body
@@ -96,9 +103,8 @@ module _ (bytes : List ℕ) (version k : ℕ) (table table' : List ℕ) (out : �
     pub goes_on : Ready k (length table') out
     pub same : gives (file_for k (entry (2 ^ k) table') (wanted k (entry (2 ^ k) table'))) ≡ file_after_head bytes version k
 
-  pub made-file : (m : TableMade) → m ≡ made.Made → TableIsMade (table_from bytes version k (length table)) table table' m → FileByTable
-  made-file m q p0 =
-      let p : TableIsMade (table_from bytes version k (length table)) table table' made.Made = rw q at p0 in
+  pub made-file : TableIsMade (table_from bytes version k (length table)) table table' (Ok tt) → FileByTable
+  made-file p =
       let a = accepted-path bytes version k (length table) (when-made _ table table' p) in
       let ss = stops_in version (2 ^ k) bytes in
       let long : length (table_of ss) ≡ length table = square-table k (length table) (λ i. stop_in version i bytes) a.square in
@@ -111,8 +117,8 @@ module _ (bytes : List ℕ) (version k : ℕ) (table table' : List ℕ) (out : �
 -- ---- the whole job
 
 -- the file of the path is that of the stops after its head
-pub plan_after : (bytes : List ℕ) (highest room version k : ℕ) → read_path bytes highest (plan_test room) ≡ giving (path version k) (body_after_head bytes version k) → file_after_head bytes version k ≡ plan_file bytes highest room
-plan_after bytes highest room version k e = sym (ap (giving wanted_file) e ∙ giving-giving (path version k) wanted_file (body_after_head bytes version k))
+pub plan_after : (given bytes : List ℕ) (highest room version k : ℕ) → given ≡ bytes → read_path bytes highest (plan_test room) ≡ giving (path version k) (body_after_head bytes version k) → file_after_head given version k ≡ plan_file bytes highest room
+plan_after given bytes highest room version k same e = rw same (sym (ap (giving wanted_file) e ∙ giving-giving (path version k) wanted_file (body_after_head bytes version k)))
 
 -- what is written carries the order and the total of demand 3
 pub carries : (bytes : List ℕ) (highest : ℕ) (test : ℕ → Outcome Unit) (p : Path) (count : ℕ) (afterwards : List ℕ) → read_path bytes highest test ≡ gives p → take count afterwards ≡ wanted_file p → Carries bytes highest count afterwards
@@ -131,8 +137,7 @@ carries bytes highest test p count afterwards means file = record {
 }
 
 -- an answer that is as it should be, and an output as it should be, carry it
-pub file-planned : (bytes : List ℕ) (highest : ℕ) (before afterwards : List ℕ) (r : FileWritten) → FileIsLeft (plan_file bytes highest (length before)) before afterwards r → FileIsPlanned bytes highest before afterwards r
-unfolding said
+pub file-planned : (bytes : List ℕ) (highest : ℕ) (before afterwards : List ℕ) (r : Result ℕ Refusal) → FileIsLeft (plan_file bytes highest (length before)) before afterwards r → FileIsPlanned bytes highest before afterwards r
 file-planned bytes highest before afterwards r p = record { said = p.said; left = p.left; claim = λ count e. by count (read_path bytes highest (plan_test (length before))) refl (rw e at p.said) p.left }
   where
     by : (count : ℕ) (o : Outcome Path) → read_path bytes highest (plan_test (length before)) ≡ o → gives count ≡ giving length (giving wanted_file o) → afterwards ≡ after (giving wanted_file o) (λ file. file) before → Carries bytes highest count afterwards

@@ -14,8 +14,8 @@ pub rewrite-refused : (bytes : List ℕ) (highest version room n : ℕ) → read
 unfolding rewrite_file
 rewrite-refused bytes highest version room n e = rw e
 
-pub rewrite-after : (bytes : List ℕ) (highest version room was k : ℕ) → read_path bytes highest small_enough ≡ giving (path was k) (body_after_head bytes was k) → rewrite_after_head bytes was k version room ≡ rewrite_file bytes highest version room
+pub rewrite-after : (given bytes : List ℕ) (highest version room was k : ℕ) → given ≡ bytes → read_path bytes highest small_enough ≡ giving (path was k) (body_after_head bytes was k) → rewrite_after_head given was k version room ≡ rewrite_file bytes highest version room
 unfolding rewrite_file rewrite_after_head
-rewrite-after bytes highest version room was k e =
+rewrite-after given bytes highest version room was k same e =
     let then : Path → Outcome (List ℕ) = λ p. need (known_version version) wrong_version (write_stops version p.k room p.stops) in
-    sym (ap (λ (o : Outcome Path). and_then o then) e ∙ giving-then (path was k) then (body_after_head bytes was k))
+    rw same (sym (ap (λ (o : Outcome Path). and_then o then) e ∙ giving-then (path was k) then (body_after_head bytes was k)))

@@ -1,14 +1,17 @@
 -- What the private functions promise each other.
-use Rattle.std.specs.Prelude.{◌≡◌, List, ℕ, ◌*◌, ◌^◌, ◌≤◌, length}
-use Rattle.base.specs.Outcome.{Outcome, giving, and_then, done, after}
-use Rattle.path.specs.Path.{path, body_after_head}
+use Rattle.std.specs.Prelude.{◌≡◌, List, ℕ, ◌*◌, ◌^◌, ◌≤◌, length, Result}
+use Rattle.base.specs.declared.Refusal.{Refusal}
+use Rattle.base.specs.Outcome.{Outcome, giving, and_then, done, said, after}
+use Rattle.path.specs.Path.{PathHead, path, read_head, body_after_head}
 use Rattle.times.specs.InPath.{time_in}
-use Rattle.order_file.specs.declared.FileWritten.{FileWritten}
 use Rattle.order_file.specs.File.{file_size}
 use Rattle.order_file.specs.Reading.{judge_file}
-use Rattle.order_file.specs.Write.{said}
-use Rattle.jobs.specs.Limit.{job_max_k}
+use Rattle.jobs.specs.Limit.{job_max_k, small_enough}
 use Rattle.jobs.specs.Plan.{wanted_file}
+
+-- the head of a job's path, and directly after it the job's own test of k
+abbrev pub job_head : (bytes : List ℕ) (highest : ℕ) → Outcome PathHead
+job_head bytes highest = and_then (read_head bytes highest) (λ h. giving (λ small. h) (small_enough h.k))
 
 -- a k up to 6, a table of n², and room for the file
 pub record Ready (k table out : ℕ) : Type 0 where
@@ -21,7 +24,7 @@ abbrev pub file_after_head : (bytes : List ℕ) (version k : ℕ) → Outcome (L
 file_after_head bytes version k = giving (λ ss. wanted_file (path version k ss)) (body_after_head bytes version k)
 
 -- a file that is written, of any outcome
-pub record FileIsLeft (o : Outcome (List ℕ)) (before afterwards : List ℕ) (r : FileWritten) : Type 0 where
+pub record FileIsLeft (o : Outcome (List ℕ)) (before afterwards : List ℕ) (r : Result ℕ Refusal) : Type 0 where
   pub said : said r ≡ giving length o
   pub left : afterwards ≡ after o (λ file. file) before
 

@@ -1,16 +1,14 @@
 -- 'path bytes to order-file bytes'
-use Rattle.std.specs.Prelude.{◌≡◌, List, ℕ, ◌^◌, leb, length, take}
+use Rattle.std.specs.Prelude.{◌≡◌, List, ℕ, ◌^◌, leb, length, take, Result, Ok}
 use Rattle.base.specs.Refusal.{wrong_size}
-use Rattle.base.specs.Outcome.{Outcome, gives, need, giving, after}
+use Rattle.base.specs.declared.Refusal.{Refusal}
+use Rattle.base.specs.Outcome.{Outcome, gives, need, giving, said, after}
 use Rattle.base.specs.Buffer.{Unsigned, SharedUnsigned, at_entry, at_exit, contents}
 use Rattle.path.specs.Path.{Path, read_path}
 use Rattle.times.specs.Table.{entry_of}
 use Rattle.orders.specs.Allowed.{forks_of}
 use Rattle.orders.specs.Bits.{bit_string}
-use Rattle.order_file.specs.declared.FileWritten.{FileWritten}
-use Rattle.order_file.specs.declared.FileWritten.TheVariants.{Wrote}
 use Rattle.order_file.specs.File.{order_file, file_for, file_size}
-use Rattle.order_file.specs.Write.{said}
 use Rattle.path_plan.specs.Claim.{ShortestFor}
 use Rattle.path_plan.specs.PathPlan.{wanted_order}
 use Rattle.jobs.specs.Limit.{job_max_k}
@@ -40,11 +38,11 @@ pub record Carries (bytes : List ℕ) (highest count : ℕ) (out : List ℕ) : T
   pub shortest : ShortestFor bytes highest k order total
 
 -- the promise: the answer, the output before and after, and demand 3 of what it carries
-pub record FileIsPlanned (bytes : List ℕ) (highest : ℕ) (before afterwards : List ℕ) (r : FileWritten) : Type 0 where
+pub record FileIsPlanned (bytes : List ℕ) (highest : ℕ) (before afterwards : List ℕ) (r : Result ℕ Refusal) : Type 0 where
   pub said : said r ≡ giving length (plan_file bytes highest (length before))
   pub left : afterwards ≡ after (plan_file bytes highest (length before)) (λ file. file) before
-  pub claim : (count : ℕ) → r ≡ Wrote count → Carries bytes highest count afterwards
+  pub claim : (count : ℕ) → r ≡ Ok count → Carries bytes highest count afterwards
 
 -- the same of the call's parameters
-abbrev pub PlansFile : SharedUnsigned → ℕ → Unsigned → FileWritten → Type 0
+abbrev pub PlansFile : SharedUnsigned → ℕ → Unsigned → Result ℕ Refusal → Type 0
 PlansFile path highest out r = FileIsPlanned (contents path) highest (at_entry out) (at_exit out) r

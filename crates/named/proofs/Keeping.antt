@@ -7,18 +7,21 @@ use native.Mathlib.Omega.{arith}
 use lib.ListN.{length, set, drop, length-drop, replicate, length-replicate}
 use lib.Seq.{paste}
 use borrow.Author.Tests.{le-leb, lt-leb}
+use Rattle.std.specs.Prelude.{Ok, Err}
+use Rattle.base.specs.declared.Refusal.{Refusal}
+use Rattle.base.specs.declared.Refusal.TheVariants.{WrongSize}
+use Rattle.base.specs.Refusal.{refusal_number}
 use Rattle.base.specs.Outcome.{Outcome, gives, refuses, and_then, number, over}
 use Rattle.base.specs.Size.{max_k}
 use Rattle.base.proofs.Outcome.{over-at}
 use Rattle.stop.specs.declared.Stop.{Stop}
+use Rattle.path.specs.declared.PathBytes.{PathBytes}
 use Rattle.path.specs.Path.{path, read_path, stops_in}
-use Rattle.times.specs.InPath.{time_in}
 use Rattle.times.specs.Table.{entry_of}
 use Rattle.orders.specs.Lent.{order_in}
 use Rattle.group_sums.specs.Travel.{sums_of}
-use Rattle.screen.specs.declared.RecordsMade.TheVariants.{Made, Refused}
 use Rattle.screen.specs.Records.{Records, judge_records, lent_records}
-use Rattle.screen.specs.Screen.{said}
+use Rattle.screen.specs.Times.{times_of}
 use Rattle.screen.proofs.Records.{GoodRecords, records-contents, records-times}
 use Rattle.screen.proofs.Screen.{GoodPath}
 use Rattle.named.specs.Names.{names, used, is_name, start_of, under, named, kept_under, lent_under}
@@ -39,13 +42,11 @@ module _ (bytes : List ℕ) (highest name : ℕ) (shown : Records) (kept : Kept)
 
   -- ---- what a refusal promises: the number, and nothing written
 
-  pub keep-refuses : (n : ℕ) → keep_records bytes highest name shown kept ≡ refuses n → OrderIsKept bytes highest name shown kept kept (Refused n)
-  unfolding said
-  keep-refuses n e = record { said = rw e; left_marks = rw e; left_stops = rw e; left_sums = rw e }
+  pub keep-refuses : (r : Refusal) → keep_records bytes highest name shown kept ≡ refuses (refusal_number r) → OrderIsKept bytes highest name shown kept kept (Err r)
+  keep-refuses r e = record { said = rw e; left_marks = rw e; left_stops = rw e; left_sums = rw e }
 
-  pub back-refuses : (n : ℕ) → come_back bytes highest name shown kept ≡ refuses n → OrderComesBack bytes highest name shown shown kept (Refused n)
-  unfolding said
-  back-refuses n e = record { said = rw e; left_order = rw e; left_sums = rw e }
+  pub back-refuses : (r : Refusal) → come_back bytes highest name shown kept ≡ refuses (refusal_number r) → OrderComesBack bytes highest name shown shown kept (Err r)
+  back-refuses r e = record { said = rw e; left_order = rw e; left_sums = rw e }
 
   -- ---- a path that passed
 
@@ -56,8 +57,8 @@ module _ (bytes : List ℕ) (highest name : ℕ) (shown : Records) (kept : Kept)
     pub takes : room_for shown kept k ≡ gives tt
     pub times : (i j : ℕ) → i < 2 ^ k → j < 2 ^ k → t i j ≡ entry_of ss i j
 
-  pub by-path : (version k : ℕ) → GoodPath bytes highest (room_for shown kept) version k → Passed version k (stops_in version (2 ^ k) bytes) (time_in version bytes)
-  by-path version k p = record { reads = p.reads; small = p.small; takes = p.takes; times = p.times }
+  pub by-path : (q : PathBytes) → GoodPath bytes highest (room_for shown kept) q → Passed q.version q.k (stops_in q.version (2 ^ q.k) bytes) (times_of q)
+  by-path q p = record { reads = p.reads; small = p.small; takes = p.takes; times = p.times }
 
   module _ (version k : ℕ) (ss : List Stop) (t : ℕ → ℕ → ℕ) (p : Passed version k ss t) where
     u : ℕ → ℕ → ℕ
@@ -104,8 +105,7 @@ module _ (bytes : List ℕ) (highest name : ℕ) (shown : Records) (kept : Kept)
         → kept'.marks ≡ set kept.marks (name - 1) used
         → kept'.stops ≡ paste kept.stops (start_of k name) shown.order (2 ^ k)
         → kept'.sums ≡ paste kept.sums (start_of k name) shown.sums (2 ^ k)
-        → OrderIsKept bytes highest name shown kept kept' Made
-    unfolding said
+        → OrderIsKept bytes highest name shown kept kept' (Ok tt)
     keep-made kept' g a b x y z =
         let is = keep-by-bytes ∙ keep-given t k name shown.order shown.sums g a b in
         let s : under name (sums_of t k (order_in k shown.order)) kept.sums ≡ paste kept.sums (start_of k name) shown.sums (2 ^ k)
@@ -120,8 +120,7 @@ module _ (bytes : List ℕ) (highest name : ℕ) (shown : Records) (kept : Kept)
     pub back-made : (shown' : Records) → Back t k name shown.order shown.sums kept.marks kept.stops kept.sums
         → shown'.order ≡ paste shown.order 0 (drop (start_of k name) kept.stops) (2 ^ k)
         → shown'.sums ≡ paste shown.sums 0 (drop (start_of k name) kept.sums) (2 ^ k)
-        → OrderComesBack bytes highest name shown shown' kept Made
-    unfolding said
+        → OrderComesBack bytes highest name shown shown' kept (Ok tt)
     back-made shown' w x y =
         let g = w.good in
         let is = back-by-bytes ∙ back-used t k name shown.order shown.sums kept.marks kept.stops kept.sums w.shown w.above w.below w.marked ∙ g.accepted in
@@ -133,10 +132,10 @@ module _ (bytes : List ℕ) (highest name : ℕ) (shown : Records) (kept : Kept)
 
 -- ---- clearing
 
-pub clear-refuses : (marks : List ℕ) → length marks < names → MarksAreCleared marks marks (Refused 8)
-unfolding said clear_marks
+pub clear-refuses : (marks : List ℕ) → length marks < names → MarksAreCleared marks marks (Err WrongSize)
+unfolding clear_marks
 clear-refuses marks h = record { said = rw (lt-leb _ _ h); left = rw (lt-leb _ _ h) }
 
-pub clear-made : (marks marks' : List ℕ) → names ≤ length marks → marks' ≡ replicate names 0 ++ drop names marks → MarksAreCleared marks marks' Made
-unfolding said clear_marks
+pub clear-made : (marks marks' : List ℕ) → names ≤ length marks → marks' ≡ replicate names 0 ++ drop names marks → MarksAreCleared marks marks' (Ok tt)
+unfolding clear_marks
 clear-made marks marks' h e = record { said = rw (le-leb _ _ h); left = rw (le-leb _ _ h) (e ∙ sym (over-at names (replicate names 0) marks (length-replicate {A = ℕ} names 0))) }

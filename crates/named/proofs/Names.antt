@@ -12,16 +12,17 @@ use lib.Pow.{pow_pos}
 use lib.Seq.{paste, length-take-le, take_all, take-take}
 use borrow.Author.Tests.{le-leb, lt-leb, leb-true, lt-ltb, le-ltb, ne_eqb, eq-eqb, eqb-true}
 use Rattle.base.specs.Refusal.{wrong_size, no_such_name, nothing_kept}
-use Rattle.base.specs.Outcome.{Outcome, gives, refuses, and_then, number}
+use Rattle.base.specs.Outcome.{Outcome, gives, refuses, and_then, done, number}
 use Rattle.base.specs.Size.{max_k, stop_count}
 use Rattle.base.proofs.Bools.{both}
 use Rattle.base.proofs.Size.{stop_count-pow, pow-le-1024}
-use Rattle.base.proofs.Outcome.{passed, refused, number-first}
+use Rattle.base.proofs.Numbered.{Numbered, need-numbered}
+use Rattle.base.proofs.Outcome.{passed, number-first, done-refused}
 use Rattle.orders.specs.Lent.{order_in}
 use Rattle.screen.specs.Records.{Records, records_of, lent_records}
 use Rattle.screen.specs.Screen.{screen_room, places_room}
 use Rattle.screen.proofs.Records.{GoodRecords, records-judged}
-use Rattle.screen.proofs.Screen.{places-few, places-good, room-places, room-long, room-good}
+use Rattle.screen.proofs.Screen.{places-few, places-good, room-places, room-long, room-good, room-numbered as screen-numbered}
 use Rattle.named.specs.Names.{names, is_name, used, is_used, start_of, under, named_room, places_of, named, lent_under}
 use Rattle.named.proofs.Paste.{blocks-apart}
 
@@ -95,8 +96,13 @@ module _ (marks stops kept order sums : ℕ) where
   unfolding named_room
   fits-room k f = rw (le-leb _ _ f.long_marks, le-leb _ _ f.long_stops, le-leb _ _ f.long_kept) (room-good order sums k f.long_order f.long_sums)
 
-  pub room-sound : (k : ℕ) → number (named_room marks stops kept order sums k) ≡ 0 → named_room marks stops kept order sums k ≡ gives tt
-  room-sound k e = fits-room k (room_fits k e)
+  -- a refusal of theirs has a number of the table
+  pub room-numbered : (k : ℕ) → Numbered (named_room marks stops kept order sums k)
+  unfolding named_room
+  room-numbered k =
+      need-numbered (leb names marks) wrong_size _ (omega arith) (omega arith)
+      (need-numbered (leb (names * 2 ^ k) stops) wrong_size _ (omega arith) (omega arith)
+      (need-numbered (leb (names * 2 ^ k) kept) wrong_size _ (omega arith) (omega arith) (screen-numbered order sums k)))
 
 -- ---- names
 
@@ -123,6 +129,7 @@ pub record Place (k name n : ℕ) : Type 0 where
   pub count : n ≡ 2 ^ k
   pub start : (name - 1) * n ≡ start_of k name
   pub small : (name - 1) * n ≤ 7168
+  pub few : n ≤ 1024
   pub fits : (size : ℕ) → names * 2 ^ k ≤ size → (name - 1) * n + n ≤ size
 
 pub place_of : (k name n : ℕ) → k ≤ max_k → 1 ≤ name → name ≤ names → n ≡ stop_count k → Place k name n
@@ -130,7 +137,7 @@ place_of k name n h a b e =
     let c : n ≡ 2 ^ k = e ∙ stop_count-pow k h in
     let s : (name - 1) * n ≡ start_of k name = ap (λ x. (name - 1) * x) c in
     let l : (name - 1) * n ≤ 7 * 1024 = mul-le-mul {n₁ = name - 1} {m₁ = n} {n₂ = 7} {m₂ = 1024} (omega arith) (omega (arith, c, pow-le-1024 k h)) in
-    record { count = c; start = s; small = omega (arith, l); fits = λ size f. omega (arith, s, c, start_fits k name size a b f) }
+    record { count = c; start = s; small = omega (arith, l); few = omega (arith, c, pow-le-1024 k h); fits = λ size f. omega (arith, s, c, start_fits k name size a b f) }
 
 -- what is kept under a name is a copy
 pub under-is : (name n : ℕ) (s all : List ℕ) → n ≤ length s → under name (take n s) all ≡ paste all ((name - 1) * n) s n
@@ -143,8 +150,8 @@ module _ (t : ℕ → ℕ → ℕ) (k name : ℕ) (order sums : List ℕ) where
   abbrev pub keeping : Outcome Records
   keeping = and_then (lent_records t k order sums) (named name)
 
-  pub keep-refused : (r : ℕ) → r ≡ number (lent_records t k order sums) → (r ≡ 0 → ⊥) → keeping ≡ refuses r
-  keep-refused r e f = rw (refused (lent_records t k order sums) r e f)
+  pub keep-refused : (n : ℕ) → refuses n ≡ done (lent_records t k order sums) → keeping ≡ refuses n
+  keep-refused n e = rw (done-refused (lent_records t k order sums) n e)
 
   pub keep-unnamed : GoodRecords t k order sums → (1 ≤ name → name ≤ names → ⊥) → keeping ≡ refuses no_such_name
   unfolding named
@@ -168,8 +175,8 @@ module _ (t : ℕ → ℕ → ℕ) (k name : ℕ) (order sums : List ℕ) where
     abbrev pub coming : Outcome Records
     coming = and_then keeping (λ _. lent_under t k name marks stops kept)
 
-    pub back-refused : (r : ℕ) → r ≡ number keeping → (r ≡ 0 → ⊥) → coming ≡ refuses r
-    back-refused r e f = rw (refused keeping r e f)
+    pub back-refused : (n : ℕ) → refuses n ≡ done keeping → coming ≡ refuses n
+    back-refused n e = rw (done-refused keeping n e)
 
     pub back-unused : GoodRecords t k order sums → 1 ≤ name → name ≤ names → (get_or marks (name - 1) 0 ≡ used → ⊥) → coming ≡ refuses nothing_kept
     unfolding lent_under is_used
@@ -181,15 +188,15 @@ module _ (t : ℕ → ℕ → ℕ) (k name : ℕ) (order sums : List ℕ) where
     back-used g a b e = rw (keep-given g a b, eq-eqb (get_or marks (name - 1) 0) used e)
 
     -- as code has what was kept: the rest of each buffer
-    pub back-rest : (n r : ℕ) → Place k name n → GoodRecords t k order sums → 1 ≤ name → name ≤ names → get_or marks (name - 1) 0 ≡ used
+    pub back-rest : (n : ℕ) (r : Outcome Unit) → Place k name n → GoodRecords t k order sums → 1 ≤ name → name ≤ names → get_or marks (name - 1) 0 ≡ used
         → names * 2 ^ k ≤ length stops → names * 2 ^ k ≤ length kept
-        → r ≡ number (lent_records t k (take (length stops - (name - 1) * n) (drop ((name - 1) * n) stops)) (take (length kept - (name - 1) * n) (drop ((name - 1) * n) kept)))
-        → r ≡ number coming
+        → r ≡ done (lent_records t k (take (length stops - (name - 1) * n) (drop ((name - 1) * n) stops)) (take (length kept - (name - 1) * n) (drop ((name - 1) * n) kept)))
+        → r ≡ done coming
     back-rest n r p g a b e f h is =
         is
-        ∙ ap₂ (λ (x y : List ℕ). number (lent_records t k x y)) (rest stops) (rest kept)
-        ∙ ap (λ (i : ℕ). number (lent_records t k (drop i stops) (drop i kept))) p.start
-        ∙ sym (ap number (back-used g a b e))
+        ∙ ap₂ (λ (x y : List ℕ). done (lent_records t k x y)) (rest stops) (rest kept)
+        ∙ ap (λ (i : ℕ). done (lent_records t k (drop i stops) (drop i kept))) p.start
+        ∙ sym (ap done (back-used g a b e))
       where
         rest : (l : List ℕ) → take (length l - (name - 1) * n) (drop ((name - 1) * n) l) ≡ drop ((name - 1) * n) l
         rest l = take_all (length l - (name - 1) * n) (drop ((name - 1) * n) l) (omega (arith, length-drop ((name - 1) * n) l))

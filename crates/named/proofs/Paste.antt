@@ -4,27 +4,33 @@ use mathlib.Core.List.{List, ◌++◌, append_assoc}
 use mathlib.Core.Logic.{◌≢◌}
 use Prim.Native.Nat.{ℕ, suc, ◌+◌, ◌*◌, ◌-◌, ◌≤◌, ◌<◌}
 use native.Mathlib.Nat.{zero-add, suc-mul, mul-le-mul_right}
-use native.Mathlib.Numerals.{add-one}
 use native.Mathlib.Decide.{dec_lt}
 use native.Mathlib.Omega.{arith}
-use lib.ListN.{length, length-drop, get_or, set, take, drop, take-append-drop}
-use lib.Seq.{paste, paste-suc, get_or-drop, drop-paste, length-take-le, take_at, drop_at, take-append-le, drop-append-le, drop-drop}
+use lib.ListN.{length, length-drop, take, drop, take-append-drop}
+use lib.Seq.{paste, drop-paste, take-take, length-take-le, take_at, drop_at, take-append-le, drop-append-le, drop-drop}
+use borrow.Rule.Slice.PartMut.{put_mid}
+use Rattle.std.proofs.lemmas.Slice.{put_mid-paste}
 use Rattle.base.specs.Outcome.{over}
 
--- a turn of the loop that copies s from a place on
-pub paste_more : (d s to : List ℕ) (start at i : ℕ) → to ≡ paste d at (drop start s) i → at + i < length d → start + i < length s
-    → set to (at + i) (get_or s (start + i) 0) ≡ paste d at (drop start s) (i + 1)
-paste_more d s to start at i e room long =
-    ap₂ (λ (u : List ℕ) (v : ℕ). set u (at + i) v) e (sym (get_or-drop start s i 0))
-    ∙ paste-suc d at (drop start s) i 0 room (rw (length-drop start s) (omega arith))
-    ∙ ap (paste d at (drop start s)) (sym (add-one i))
+-- n places of a buffer, as a range of it has them
+pub place-long : (l : List ℕ) (at n : ℕ) → at + n ≤ length l → length (take (at + n - at) (drop at l)) ≡ n
+place-long l at n h =
+    let e : at + n - at ≡ n = omega arith in
+    rw e (length-take-le n (drop at l) (rw (length-drop at l) (omega arith)))
 
--- a copy, by the place and the count that it is known by
-pub paste-at : (d s : List ℕ) (a b m n : ℕ) (r : List ℕ) → r ≡ paste d a s m → a ≡ b → m ≡ n → r ≡ paste d b s n
-paste-at d s a b m n r e f g = e ∙ ap₂ (λ (x y : ℕ). paste d x s y) f g
+-- n numbers written over them, by the place and the count that they are known by
+pub written-at : (at start n m : ℕ) (d s part : List ℕ) → part ≡ take n s → n ≤ length s → at ≡ start → n ≡ m → put_mid at (at + n - at) d part ≡ paste d start s m
+written-at at start n m d s part e long f g =
+    put_mid-paste at (at + n - at) d part (take n s) n e (omega arith) (sym (length-take-le n s long))
+    ∙ ap (λ (l : List ℕ). take at d ++ l ++ drop (at + n) d) (take-take n n s (omega arith))
+    ∙ ap₂ (λ (x y : ℕ). paste d x s y) f g
 
-pub paste-from : (d s : List ℕ) (a b m n : ℕ) (r : List ℕ) → r ≡ paste d 0 (drop a s) m → a ≡ b → m ≡ n → r ≡ paste d 0 (drop b s) n
-paste-from d s a b m n r e f g = e ∙ ap₂ (λ (x y : ℕ). paste d 0 (drop x s) y) f g
+-- and n such places written over the front of another buffer
+pub written-front : (at start n m : ℕ) (d s part : List ℕ) → part ≡ take (at + n - at) (drop at s) → at ≡ start → n ≡ m → part ++ drop n d ≡ paste d 0 (drop start s) m
+written-front at start n m d s part e f g =
+    let i : at + n - at ≡ m = omega arith in
+    let j : n ≡ 0 + m = omega arith in
+    ap₂ (λ (l : List ℕ) (x : ℕ). l ++ drop x d) (e ∙ ap₂ (λ (x y : ℕ). take x (drop y s)) i f) j
 
 -- a copy to the front
 pub paste-front : (d s : List ℕ) (n : ℕ) → n ≤ length s → paste d 0 s n ≡ over (take n s) d

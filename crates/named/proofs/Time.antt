@@ -7,35 +7,31 @@ use Prim.Native.Nat.{ℕ, ◌*◌, ◌-◌, ◌^◌, ◌≤◌}
 use native.Mathlib.Omega.{arith}
 use lib.ListN.{length, length-set, length-drop, get_or, set, take, drop}
 use lib.Seq.{paste, length-paste, length-take-le, get_or-set_same, get_or-set_other}
-use Rattle.base.specs.Outcome.{Outcome, gives, refuses, number, over, done}
-use Rattle.base.proofs.Outcome.{number-first, refused-giving, over-front, over-long}
+use Rattle.std.specs.Prelude.{Result, Ok, Err}
+use Rattle.base.specs.declared.Refusal.{Refusal}
+use Rattle.base.specs.Refusal.{refusal_number}
+use Rattle.base.specs.Outcome.{Outcome, gives, number, over}
+use Rattle.base.proofs.Outcome.{number-first, done-good, done-refused, over-front, over-long}
 use Rattle.stop.specs.declared.Stop.{Stop}
 use Rattle.path.specs.Path.{path, read_path, any_size}
 use Rattle.path.proofs.Inverse.{read_same}
 use Rattle.times.specs.Table.{entry_of}
 use Rattle.orders.specs.Lent.{order_in, JudgedOrder}
-use Rattle.orders.proofs.Calls.{done-number}
+use Rattle.orders.proofs.Calls.{only-ok}
 use Rattle.orders.proofs.Lent.{holds-order}
 use Rattle.group_sums.specs.Travel.{sums_of}
 use Rattle.group_sums.proofs.Travel.{length-sums_of}
-use Rattle.screen.specs.declared.RecordsMade.{RecordsMade}
-use Rattle.screen.specs.declared.RecordsMade.TheVariants.{Made, Refused}
 use Rattle.screen.specs.Records.{Records, records_of}
-use Rattle.screen.specs.Screen.{screen_room, group_sums, exchange_records, said, SumsAreMade, ForkIsExchanged}
+use Rattle.screen.specs.Screen.{screen_room, group_sums, exchange_records, SumsAreMade, ForkIsExchanged}
 use Rattle.screen.proofs.Records.{GoodRecords, records-are}
-use Rattle.screen.proofs.Screen.{room-sound as screen-sound}
+use Rattle.screen.proofs.Screen.{room-numbered as screen-numbered}
 use Rattle.screen.proofs.Calls as calls
 use Rattle.named.specs.Names.{names, used, start_of, under}
 use Rattle.named.specs.Calls.{Kept, room_for, keep_records, come_back, OrderIsKept, OrderComesBack}
 use Rattle.named.specs.Time.{Call, Calls, keeps, keeps-nothing, comes_back, exchanges, makes-sums, elsewhere, none, next}
 use Rattle.named.proofs.Paste.{paste-block, paste-other}
-use Rattle.named.proofs.Names.{Fits, room_fits, room-sound, fits-room, start_fits, under-is, keep-given, keep-judged, Back, back-used, back-judged}
+use Rattle.named.proofs.Names.{Fits, room_fits, room-numbered, fits-room, start_fits, under-is, keep-given, keep-judged, Back, back-used, back-judged}
 use Rattle.named.proofs.Keeping.{Passed, keep-by-bytes, back-by-bytes}
-
--- a call that refused says so of what it comes to
-refusing : {A : Type 0} (o : Outcome A) (n : ℕ) → said (Refused n) ≡ done o → o ≡ refuses n
-unfolding said
-refusing o n e = refused-giving (λ a. tt) o n (sym e)
 
 module _ (bytes : List ℕ) (known version k : ℕ) (ss : List Stop) (means : read_path bytes known any_size ≡ gives (path version k ss)) where
   -- records that pass by the times of the path's stops
@@ -58,7 +54,7 @@ module _ (bytes : List ℕ) (known version k : ℕ) (ss : List Stop) (means : re
   -- an accepted reading by any caller is of this path, and its lengths suffice
   passed : (h name : ℕ) (shown : Records) (kept : Kept) → number (read_path bytes h (room_for shown kept)) ≡ 0 → Passed bytes h name shown kept version k ss (entry_of ss)
   passed h name shown kept z =
-      let w = calls.path-of bytes known version k ss means h (room_for shown kept) (room-sound _ _ _ _ _) z in
+      let w = calls.path-of bytes known version k ss means h (room_for shown kept) (room-numbered _ _ _ _ _) z in
       record { reads = w.0; small = calls.few bytes known version k ss means; takes = w.1; times = λ i j a b. refl }
 
   -- what an accepted keeping left
@@ -71,10 +67,10 @@ module _ (bytes : List ℕ) (known version k : ℕ) (ss : List Stop) (means : re
     pub stops : kept'.stops ≡ paste kept.stops (start_of k name) shown.order (2 ^ k)
     pub sums : kept'.sums ≡ paste kept.sums (start_of k name) shown.sums (2 ^ k)
 
-  pub when-kept : (h name : ℕ) (shown : Records) (kept kept' : Kept) → OrderIsKept bytes h name shown kept kept' Made → Keeping name shown kept kept'
-  unfolding said keep_records
+  pub when-kept : (h name : ℕ) (shown : Records) (kept kept' : Kept) → OrderIsKept bytes h name shown kept kept' (Ok tt) → Keeping name shown kept kept'
+  unfolding keep_records
   when-kept h name shown kept kept' call =
-      let z : number (keep_records bytes h name shown kept) ≡ 0 = done-number (keep_records bytes h name shown kept) call.said in
+      let z : number (keep_records bytes h name shown kept) ≡ 0 = done-good (keep_records bytes h name shown kept) call.said in
       let p = passed h name shown kept (number-first (read_path bytes h (room_for shown kept)) _ z) in
       let by = keep-by-bytes bytes h name shown kept version k ss (entry_of ss) p in
       let w = keep-judged (entry_of ss) k name shown.order shown.sums (sym (ap number by) ∙ z) in
@@ -104,10 +100,10 @@ module _ (bytes : List ℕ) (known version k : ℕ) (ss : List Stop) (means : re
       ∙ back-used (entry_of ss) k name shown.order shown.sums kept.marks kept.stops kept.sums w.shown w.above w.below w.marked
       ∙ w.good.accepted
 
-  pub when-back : (h name : ℕ) (shown shown' : Records) (kept : Kept) → OrderComesBack bytes h name shown shown' kept Made → Coming name shown shown' kept
-  unfolding said come_back
+  pub when-back : (h name : ℕ) (shown shown' : Records) (kept : Kept) → OrderComesBack bytes h name shown shown' kept (Ok tt) → Coming name shown shown' kept
+  unfolding come_back
   when-back h name shown shown' kept call =
-      let z : number (come_back bytes h name shown kept) ≡ 0 = done-number (come_back bytes h name shown kept) call.said in
+      let z : number (come_back bytes h name shown kept) ≡ 0 = done-good (come_back bytes h name shown kept) call.said in
       let p = passed h name shown kept (number-first (read_path bytes h (room_for shown kept)) _ z) in
       let by = back-by-bytes bytes h name shown kept version k ss (entry_of ss) p in
       let w = back-judged (entry_of ss) k name shown.order shown.sums kept.marks kept.stops kept.sums (sym (ap number by) ∙ z) in
@@ -124,13 +120,13 @@ module _ (bytes : List ℕ) (known version k : ℕ) (ss : List Stop) (means : re
       (rw f (over-long (2 ^ k) (sums_of (entry_of ss) k o) shown.sums (length-sums_of (entry_of ss) k o)))
       (rw (e, f) (over-front (2 ^ k) (sums_of (entry_of ss) k o) shown.sums (length-sums_of (entry_of ss) k o)))
 
-  back_passes : (h name : ℕ) (shown shown' : Records) (kept : Kept) (r : RecordsMade) → OrderComesBack bytes h name shown shown' kept r → Passes shown → Passes shown'
-  back_passes h name shown shown' kept (Refused n) call g =
-      let is = refusing (come_back bytes h name shown kept) n call.said in
+  back_passes : (h name : ℕ) (shown shown' : Records) (kept : Kept) (r : Result Unit Refusal) → OrderComesBack bytes h name shown shown' kept r → Passes shown → Passes shown'
+  back_passes h name shown shown' kept (Err n) call g =
+      let is = done-refused (come_back bytes h name shown kept) (refusal_number n) call.said in
       let a : shown'.order ≡ shown.order = call.left_order ∙ rw is in
       let b : shown'.sums ≡ shown.sums = call.left_sums ∙ rw is in
       rw (a, b) g
-  back_passes h name shown shown' kept Made call g =
+  back_passes h name shown shown' kept (Ok u) call g =
       let w = when-back h name shown shown' kept call in
       let j = w.back.good.judged in
       let s : List ℕ = drop (start_of k name) kept.stops in
@@ -139,44 +135,44 @@ module _ (bytes : List ℕ) (known version k : ℕ) (ss : List Stop) (means : re
       (rw w.order (over-front (2 ^ k) (order_in k s) shown.order (length-take-le (2 ^ k) s j.long)))
       w.sums
 
-  exchange-passes : (h fork : ℕ) (shown shown' : Records) (r : RecordsMade) → ForkIsExchanged bytes h fork shown.order shown.sums shown'.order shown'.sums r
+  exchange-passes : (h fork : ℕ) (shown shown' : Records) (r : Result Unit Refusal) → ForkIsExchanged bytes h fork shown.order shown.sums shown'.order shown'.sums r
       → Passes shown → Passes shown'
-  unfolding said exchange_records
-  exchange-passes h fork shown shown' (Refused n) call g =
-      let is = refusing (exchange_records bytes h fork shown.order shown.sums) n call.said in
+  unfolding exchange_records
+  exchange-passes h fork shown shown' (Err n) call g =
+      let is = done-refused (exchange_records bytes h fork shown.order shown.sums) (refusal_number n) call.said in
       let a : shown'.order ≡ shown.order = call.left_order ∙ rw is in
       let b : shown'.sums ≡ shown.sums = call.left_sums ∙ rw is in
       rw (a, b) g
-  exchange-passes h fork shown shown' Made call g =
+  exchange-passes h fork shown shown' (Ok u) call g =
       let room : ℕ → Outcome Unit = screen_room (length shown.order) (length shown.sums) in
-      let z = done-number (exchange_records bytes h fork shown.order shown.sums) call.said in
-      let m = calls.means-of bytes known version k ss means h room (screen-sound _ _) (number-first (read_path bytes h room) _ z) in
+      let z = done-good (exchange_records bytes h fork shown.order shown.sums) call.said in
+      let m = calls.means-of bytes known version k ss means h room (screen-numbered _ _) (number-first (read_path bytes h room) _ z) in
       records-are (entry_of ss) k shown'.order shown'.sums
       (calls.order-passes bytes h version k ss m fork shown.order shown.sums shown'.order shown'.sums call)
       (calls.sums-long bytes h version k ss m fork shown.order shown.sums shown'.order shown'.sums call)
       (calls.new-sums bytes h version k ss m fork shown.order shown.sums shown'.order shown'.sums call)
 
-  sums-pass : (h : ℕ) (shown shown' : Records) (r : RecordsMade) → shown'.order ≡ shown.order → SumsAreMade bytes h shown.order shown.sums shown'.sums r
+  sums-pass : (h : ℕ) (shown shown' : Records) (r : Result Unit Refusal) → shown'.order ≡ shown.order → SumsAreMade bytes h shown.order shown.sums shown'.sums r
       → Passes shown → Passes shown'
-  unfolding said group_sums
-  sums-pass h shown shown' (Refused n) e call g =
-      let is = refusing (group_sums bytes h shown.order (length shown.sums)) n call.said in
+  unfolding group_sums
+  sums-pass h shown shown' (Err n) e call g =
+      let is = done-refused (group_sums bytes h shown.order (length shown.sums)) (refusal_number n) call.said in
       let b : shown'.sums ≡ shown.sums = call.left ∙ rw is in
       rw (e, b) g
-  sums-pass h shown shown' Made e call g =
+  sums-pass h shown shown' (Ok u) e call g =
       let room : ℕ → Outcome Unit = screen_room (length shown.order) (length shown.sums) in
-      let z = done-number (group_sums bytes h shown.order (length shown.sums)) call.said in
-      let m = calls.means-of bytes known version k ss means h room (screen-sound _ _) (number-first (read_path bytes h room) _ z) in
+      let z = done-good (group_sums bytes h shown.order (length shown.sums)) call.said in
+      let m = calls.means-of bytes known version k ss means h room (screen-numbered _ _) (number-first (read_path bytes h room) _ z) in
       let w = calls.when-made bytes h version k ss m shown.order shown.sums shown'.sums call in
       over-passes shown shown' (order_in k shown.order) (rw e w.judged) (ap (order_in k) e) w.left
 
   -- ---- what name m has stays
 
   -- after a refused keeping, under whatever name
-  refused-holds : (m h name n : ℕ) (shown : Records) (kept kept' : Kept) (stops sums : List ℕ) → OrderIsKept bytes h name shown kept kept' (Refused n)
+  refused-holds : (m h name : ℕ) (n : Refusal) (shown : Records) (kept kept' : Kept) (stops sums : List ℕ) → OrderIsKept bytes h name shown kept kept' (Err n)
       → Holds m stops sums kept → Holds m stops sums kept'
   refused-holds m h name n shown kept kept' stops sums call w =
-      let is = refusing (keep_records bytes h name shown kept) n call.said in
+      let is = done-refused (keep_records bytes h name shown kept) (refusal_number n) call.said in
       let a : kept'.marks ≡ kept.marks = call.left_marks ∙ rw is in
       let b : kept'.stops ≡ kept.stops = call.left_stops ∙ rw is in
       let c : kept'.sums ≡ kept.sums = call.left_sums ∙ rw is in
@@ -191,10 +187,10 @@ module _ (bytes : List ℕ) (known version k : ℕ) (ss : List Stop) (means : re
         sums_are = rw c w.sums_are;
       }
 
-  keep-holds : (m h name : ℕ) (shown : Records) (kept kept' : Kept) (r : RecordsMade) (stops sums : List ℕ) → name ≢ m → OrderIsKept bytes h name shown kept kept' r
+  keep-holds : (m h name : ℕ) (shown : Records) (kept kept' : Kept) (r : Result Unit Refusal) (stops sums : List ℕ) → name ≢ m → OrderIsKept bytes h name shown kept kept' r
       → Holds m stops sums kept → Holds m stops sums kept'
-  keep-holds m h name shown kept kept' (Refused n) stops sums apart call w = refused-holds m h name n shown kept kept' stops sums call w
-  keep-holds m h name shown kept kept' Made stops sums apart call w =
+  keep-holds m h name shown kept kept' (Err n) stops sums apart call w = refused-holds m h name n shown kept kept' stops sums call w
+  keep-holds m h name shown kept kept' (Ok u) stops sums apart call w =
       let v = when-kept h name shown kept kept' call in
       let n : ℕ = 2 ^ k in
       let g = v.passes in
@@ -233,7 +229,7 @@ module _ (bytes : List ℕ) (known version k : ℕ) (ss : List Stop) (means : re
   -- ---- keeping, and coming back
 
   -- after an accepted keeping the name has the screen's order and sums
-  pub kept-still : (h m : ℕ) (shown : Records) (kept kept' : Kept) → OrderIsKept bytes h m shown kept kept' Made
+  pub kept-still : (h m : ℕ) (shown : Records) (kept kept' : Kept) → OrderIsKept bytes h m shown kept kept' (Ok tt)
       → Still m (order_in k shown.order) (take (2 ^ k) shown.sums) shown kept'
   kept-still h m shown kept kept' call =
       let v = when-kept h m shown kept kept' call in
@@ -257,10 +253,10 @@ module _ (bytes : List ℕ) (known version k : ℕ) (ss : List Stop) (means : re
 
   -- 'Coming back restores the order and all group sums as they were when last kept under that name, after any calls for that path in between': it is
   -- accepted from every caller who can read the path, and what lies behind the n stops and the n sums stays
-  pub comes-back-as-kept : (h m : ℕ) (shown : Records) (kept kept' : Kept) → OrderIsKept bytes h m shown kept kept' Made
+  pub comes-back-as-kept : (h m : ℕ) (shown : Records) (kept kept' : Kept) → OrderIsKept bytes h m shown kept kept' (Ok tt)
       → (shown'' : Records) (kept'' : Kept) → Calls bytes m shown kept' shown'' kept''
-      → (j : ℕ) → read_path bytes j any_size ≡ gives (path version k ss) → (back : Records) (r : RecordsMade) → OrderComesBack bytes j m shown'' back kept'' r
-      → (r ≡ Made) × (back.order ≡ over (order_in k shown.order) shown''.order) × (back.sums ≡ over (take (2 ^ k) shown.sums) shown''.sums)
+      → (j : ℕ) → read_path bytes j any_size ≡ gives (path version k ss) → (back : Records) (r : Result Unit Refusal) → OrderComesBack bytes j m shown'' back kept'' r
+      → (r ≡ Ok tt) × (back.order ≡ over (order_in k shown.order) shown''.order) × (back.sums ≡ over (take (2 ^ k) shown.sums) shown''.sums)
   comes-back-as-kept h m shown kept kept' first shown'' kept'' between j reads back r call =
       let start = kept-still h m shown kept kept' first in
       let g = start.passes in
@@ -294,7 +290,7 @@ module _ (bytes : List ℕ) (known version k : ℕ) (ss : List Stop) (means : re
         times = λ x y c d. refl;
       } in
       let is = coming-is j m shown'' kept'' p passes in (
-        calls.only-made r (call.said ∙ rw is),
+        only-ok r (call.said ∙ rw is),
         call.left_order ∙ rw is (ap (λ (l : List ℕ). over l shown''.order) v.stops_are),
         call.left_sums ∙ rw is (ap (λ (l : List ℕ). over l shown''.sums) (sym same ∙ v.sums_are)),
       )

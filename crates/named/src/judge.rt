@@ -1,18 +1,27 @@
 // What comes before anything is written: the lengths, the screen's records, the name, and what was kept under it.
 ghost use Rattle.std.specs.Prelude.{◌≡◌, ◌*◌, ◌≤◌, ◌^◌, length};
-ghost use Rattle.base.specs.Outcome.{number, and_then};
+ghost use Rattle.base.specs.Outcome.{and_then, done, said};
 ghost use Rattle.base.specs.Size.{max_k};
-ghost use Rattle.times.specs.InPath.{time_in};
 ghost use Rattle.screen.specs.Records.{lent_records};
+ghost use Rattle.screen.specs.Times.{times_of};
 ghost use Rattle.named.specs.Names.{names, places_of, named, lent_under};
 
-use base::{NO_SUCH_NAME, NOTHING_KEPT, stop_count};
-use screen::{fewer, judge_records};
+use base::{Refusal, stop_count};
+use path::PathBytes;
+use screen::judge_records;
 
 // How many names there are, and the mark of a used one.
 pub const NAMES: usize = 8;
 
 pub const USED: u8 = 1;
+
+// What is kept for all names: the marks, the stops and the sums.
+#[derive(Clone, Copy)]
+pub struct Kept<'a> {
+    pub marks: &'a [u8],
+    pub stops: &'a [u16],
+    pub sums: &'a [u64],
+}
 
 // So many stops all that is lent is enough for: none where a mark is missing.
 pub fn places(marks: usize, stops: usize, kept: usize, order: usize, sums: usize) -> usize
@@ -21,50 +30,42 @@ pub fn places(marks: usize, stops: usize, kept: usize, order: usize, sums: usize
     if marks < NAMES {
         return 0;
     }
-    fewer(fewer(order, sums), fewer(stops, kept) / NAMES)
+    order.min(sums).min(stops.min(kept) / NAMES)
 }
 
-// 0, or the refusal of the screen's records and then of the name (15).
-pub fn judge_keep(bytes: &[u8], version: u16, k: u16, name: u16, order: &[u16], sums: &[u64]) -> u16
-    ensures { result ≡ number (and_then (lent_records (time_in version bytes.now) k order.now sums.now) (named name)) }
-{
-    let faulty = judge_records(bytes, version, k, order, sums);
-    if faulty != 0 {
-        return faulty;
-    }
-    if name == 0 {
-        return NO_SUCH_NAME;
-    }
-    if name as usize <= NAMES {
-        return 0;
-    }
-    NO_SUCH_NAME
-}
-
-// 0, or the refusal to come back: the same, then nothing kept (16), then that of what was kept.
-pub fn judge_back(
-    bytes: &[u8],
-    version: u16,
-    k: u16,
+// The refusal of the screen's records and then of the name (15).
+pub fn judge_keep(
+    path: PathBytes<'_>,
     name: u16,
     order: &[u16],
     sums: &[u64],
-    marks: &[u8],
-    stops: &[u16],
-    kept: &[u64],
-) -> u16
-    requires { (k ≤ max_k) × (names ≤ length marks.now) × (names * 2 ^ k ≤ length stops.now) × (names * 2 ^ k ≤ length kept.now) }
-    ensures { result ≡ number (and_then (and_then (lent_records (time_in version bytes.now) k order.now sums.now) (named name))
-        (λ _. lent_under (time_in version bytes.now) k name marks.now stops.now kept.now)) }
+) -> Result<(), Refusal>
+    ensures { said result ≡ done (and_then (lent_records (times_of path.entry) path.entry.k order.now sums.now) (named name)) }
 {
-    let faulty = judge_keep(bytes, version, k, name, order, sums);
-    if faulty != 0 {
-        return faulty;
+    judge_records(path, order, sums)?;
+    if name == 0 || NAMES < name as usize {
+        return Err(Refusal::NoSuchName);
     }
+    Ok(())
+}
+
+// The refusal to come back: the same, then nothing kept (16), then that of what was kept.
+pub fn judge_back(
+    path: PathBytes<'_>,
+    name: u16,
+    order: &[u16],
+    sums: &[u64],
+    kept: Kept<'_>,
+) -> Result<(), Refusal>
+    requires { (path.k ≤ max_k) × (names ≤ length kept.marks.now) × (names * 2 ^ path.k ≤ length kept.stops.now) × (names * 2 ^ path.k ≤ length kept.sums.now) }
+    ensures { said result ≡ done (and_then (and_then (lent_records (times_of path.entry) path.entry.k order.now sums.now) (named name))
+        (λ _. lent_under (times_of path.entry) path.entry.k name kept.entry.marks.now kept.entry.stops.now kept.entry.sums.now)) }
+{
+    judge_keep(path, name, order, sums)?;
     let m = (name as usize) - 1;
-    if marks[m] != USED {
-        return NOTHING_KEPT;
+    if kept.marks[m] != USED {
+        return Err(Refusal::NothingKept);
     }
-    let at = m * stop_count(k);
-    judge_records(bytes, version, k, &stops[at..], &kept[at..])
+    let at = m * stop_count(path.k);
+    judge_records(path, &kept.stops[at..], &kept.sums[at..])
 }

@@ -12,9 +12,9 @@ mod store;
 
 ghost use Rattle.named.specs.Calls.{KeepsOrder, ComesBack, ClearsMarks};
 
-use base::WRONG_SIZE;
-use judge::{NAMES, judge_back, judge_keep, places};
-use screen::{RecordsMade, judge_path};
+use base::Refusal;
+use judge::{Kept, NAMES, judge_back, judge_keep, places};
+use screen::judge_path;
 
 // Keeps the screen's order and sums under a name, and replaces what was kept there. Refused are a faulty path, order or sums (9, 10, 11), as by an
 // exchange, and then a name that is not 1 to 8 (15).
@@ -27,7 +27,7 @@ pub fn keep(
     marks: &mut [u8],
     stops: &mut [u16],
     kept: &mut [u64],
-) -> RecordsMade
+) -> Result<(), Refusal>
     ensures { KeepsOrder bytes highest name order sums marks stops kept result }
 {
     let lent = places(
@@ -37,19 +37,10 @@ pub fn keep(
         order.len(),
         sums.len(),
     );
-    let head = judge_path(bytes, highest, lent);
-    let refused = head.refused;
-    let version = head.version;
-    let k = head.k;
-    if refused != 0 {
-        return RecordsMade::Refused(refused);
-    }
-    let faulty = judge_keep(bytes, version, k, name, order, sums);
-    if faulty != 0 {
-        return RecordsMade::Refused(faulty);
-    }
-    store::keep_under(k, name as usize, order, sums, marks, stops, kept);
-    RecordsMade::Made
+    let path = judge_path(bytes, highest, lent)?;
+    judge_keep(path, name, order, sums)?;
+    store::keep_under(path.k, name as usize, order, sums, marks, stops, kept);
+    Ok(())
 }
 
 // Brings the order and sums that were kept under a name back to the screen. Refused are a faulty path, order or sums on the screen (9, 10, 11), a name
@@ -63,7 +54,7 @@ pub fn come_back(
     marks: &[u8],
     stops: &[u16],
     kept: &[u64],
-) -> RecordsMade
+) -> Result<(), Refusal>
     ensures { ComesBack bytes highest name order sums marks stops kept result }
 {
     let lent = places(
@@ -73,28 +64,24 @@ pub fn come_back(
         order.len(),
         sums.len(),
     );
-    let head = judge_path(bytes, highest, lent);
-    let refused = head.refused;
-    let version = head.version;
-    let k = head.k;
-    if refused != 0 {
-        return RecordsMade::Refused(refused);
-    }
-    let faulty = judge_back(bytes, version, k, name, order, sums, marks, stops, kept);
-    if faulty != 0 {
-        return RecordsMade::Refused(faulty);
-    }
-    store::bring_back(k, name as usize, order, sums, stops, kept);
-    RecordsMade::Made
+    let path = judge_path(bytes, highest, lent)?;
+    let kept = Kept {
+        marks,
+        stops,
+        sums: kept,
+    };
+    judge_back(path, name, order, sums, kept)?;
+    store::bring_back(path.k, name as usize, order, sums, kept);
+    Ok(())
 }
 
 // Clears the marks, for a new path: the 8 are set to 0. Fewer are refused (8).
-pub fn clear(marks: &mut [u8]) -> RecordsMade
+pub fn clear(marks: &mut [u8]) -> Result<(), Refusal>
     ensures { ClearsMarks marks result }
 {
     if marks.len() < NAMES {
-        return RecordsMade::Refused(WRONG_SIZE);
+        return Err(Refusal::WrongSize);
     }
-    store::clear_marks(marks);
-    RecordsMade::Made
+    marks[..NAMES].fill(0);
+    Ok(())
 }

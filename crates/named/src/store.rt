@@ -4,34 +4,10 @@ ghost use Rattle.std.proofs.Math.Seq.{paste};
 ghost use Rattle.base.specs.Size.{max_k};
 ghost use Rattle.named.specs.Names.{names, used, start_of};
 
-use crate::judge::{NAMES, USED};
+use crate::judge::{Kept, USED};
 use base::stop_count;
 
-// Copies the n stops of one buffer from place `start` on into another, from place `at` on.
-fn copy_stops(from: &[u16], start: usize, to: &mut [u16], at: usize, n: usize)
-    requires { (start + n ≤ length from.now) × (at + n ≤ length to.old) }
-    ensures { to.new ≡ paste to.old at (drop start from.now) n }
-{
-    let mut i = 0;
-    while i < n {
-        to[at + i] = from[start + i];
-        i += 1;
-    }
-}
-
-// The same for sums.
-fn copy_sums(from: &[u64], start: usize, to: &mut [u64], at: usize, n: usize)
-    requires { (start + n ≤ length from.now) × (at + n ≤ length to.old) }
-    ensures { to.new ≡ paste to.old at (drop start from.now) n }
-{
-    let mut i = 0;
-    while i < n {
-        to[at + i] = from[start + i];
-        i += 1;
-    }
-}
-
-// Keeps n stops and n sums under a name, and marks it.
+// Keeps n stops and n sums under a name, and marks it. The one function that writes what is kept: a struct of the three `&mut` would serve no other.
 pub fn keep_under(
     k: u16,
     name: usize,
@@ -50,38 +26,19 @@ pub fn keep_under(
     let n = stop_count(k);
     let at = (name - 1) * n;
     marks[name - 1] = USED;
-    copy_stops(order, 0, stops, at, n);
-    copy_sums(sums, 0, kept, at, n);
+    stops[at..at + n].copy_from_slice(&order[..n]);
+    kept[at..at + n].copy_from_slice(&sums[..n]);
 }
 
 // Brings the n stops and n sums of a name back to the screen.
-pub fn bring_back(
-    k: u16,
-    name: usize,
-    order: &mut [u16],
-    sums: &mut [u64],
-    stops: &[u16],
-    kept: &[u64],
-)
+pub fn bring_back(k: u16, name: usize, order: &mut [u16], sums: &mut [u64], kept: Kept<'_>)
     requires { (k ≤ max_k) × (1 ≤ name) × (name ≤ names) × (2 ^ k ≤ length order.old) × (2 ^ k ≤ length sums.old)
-        × (names * 2 ^ k ≤ length stops.now) × (names * 2 ^ k ≤ length kept.now) }
-    ensures { (order.new ≡ paste order.old 0 (drop (start_of k name) stops.now) (2 ^ k))
-        × (sums.new ≡ paste sums.old 0 (drop (start_of k name) kept.now) (2 ^ k)) }
+        × (names * 2 ^ k ≤ length kept.stops.now) × (names * 2 ^ k ≤ length kept.sums.now) }
+    ensures { (order.new ≡ paste order.old 0 (drop (start_of k name) kept.entry.stops.now) (2 ^ k))
+        × (sums.new ≡ paste sums.old 0 (drop (start_of k name) kept.entry.sums.now) (2 ^ k)) }
 {
     let n = stop_count(k);
     let from = (name - 1) * n;
-    copy_stops(stops, from, order, 0, n);
-    copy_sums(kept, from, sums, 0, n);
-}
-
-// Sets the marks to 0.
-pub fn clear_marks(marks: &mut [u8])
-    requires { names ≤ length marks.old }
-    ensures { marks.new ≡ replicate names 0 ++ drop names marks.old }
-{
-    let mut i = 0;
-    while i < NAMES {
-        marks[i] = 0;
-        i += 1;
-    }
+    order[..n].copy_from_slice(&kept.stops[from..from + n]);
+    sums[..n].copy_from_slice(&kept.sums[from..from + n]);
 }

@@ -7,11 +7,13 @@ use native.Mathlib.Omega.{arith}
 use lib.Dec.{leb, eqb}
 use lib.ListN.{length}
 use borrow.Author.Tests.{le-leb, lt-leb, leb-true, eq-eqb, ne_eqb, eqb-true}
-use Rattle.base.specs.Refusal.{wrong_k, wrong_size, wrong_forks, wrong_total}
-use Rattle.base.specs.Outcome.{Outcome, gives, refuses, need, giving, number, over}
+use Rattle.std.specs.Prelude.{Ok, Err}
+use Rattle.base.specs.declared.Refusal.{Refusal}
+use Rattle.base.specs.Refusal.{refusal_number, wrong_k, wrong_size, wrong_forks, wrong_total}
+use Rattle.base.specs.Outcome.{Outcome, gives, refuses, need, giving, done, number, over}
 use Rattle.base.specs.Size.{max_k}
 use Rattle.base.proofs.Bools.{both}
-use Rattle.base.proofs.Outcome.{passed, refused, number-giving, number-first}
+use Rattle.base.proofs.Outcome.{passed, number-giving, number-first, giving-giving}
 use Rattle.tree.specs.Total.{entry, total}
 use Rattle.orders.specs.Same.{alike}
 use Rattle.orders.specs.Allowed.{is_allowed, forks_of, judge_order}
@@ -20,9 +22,8 @@ use Rattle.orders.specs.Lent.{order_in, order_fits, bits_fit, table_fits, lent_o
 use Rattle.orders.specs.ForkBits.{fork_bits}
 use Rattle.orders.proofs.Same.{alike_same, same_alike}
 use Rattle.orders.proofs.Allowed.{judge-good, judged-good, allowed-below}
+use Rattle.orders.proofs.Calls.{done-refused}
 use Rattle.orders.proofs.Lent.{lent-k, lent-others, lent_same, lent-judged, lent_gives}
-use Rattle.order_file.specs.declared.FileWritten.TheVariants as write-answer
-use Rattle.order_file.specs.declared.FileRead.TheVariants as read_answer
 use Rattle.order_file.specs.File.{file_for, file_size}
 use Rattle.order_file.specs.Reading.{Contents, read_records, judge_string, unsummed, judge_file}
 use Rattle.order_file.specs.Write as write
@@ -59,16 +60,18 @@ module _ (k : ℕ) (order string : List ℕ) where
 
 module _ (k : ℕ) (file : List ℕ) where
   -- a file whose records are refused
-  pub unsummed-records : (r : ℕ) → r ≡ number (read_records k file) → (r ≡ 0 → ⊥) → r ≡ number (unsummed k file)
+  pub unsummed-records : (n : ℕ) → refuses n ≡ done (read_records k file) → refuses n ≡ done (unsummed k file)
   unfolding unsummed
-  unsummed-records r e f = rw (refused (read_records k file) r e f)
+  unsummed-records n e = rw (done-refused (read_records k file) n e)
 
   -- a file whose records are not
-  pub unsummed-string : stage.Whole k file → number (unsummed k file) ≡ number (judge_string k (stage.stops k file) (stage.string k file))
+  pub unsummed-string : stage.Whole k file → unsummed k file ≡ giving (λ o. stage.says k file) (judge_string k (stage.stops k file) (stage.string k file))
   unfolding unsummed
-  unsummed-string w =
-      rw (stage.whole_says k file w)
-      (number-giving (λ o. stage.says k file) (judge_string k (stage.stops k file) (stage.string k file)))
+  unsummed-string w = rw (stage.whole_says k file w)
+
+  pub unsummed-done : stage.Whole k file → done (unsummed k file) ≡ done (judge_string k (stage.stops k file) (stage.string k file))
+  unsummed-done w =
+      ap done (unsummed-string w) ∙ giving-giving (λ o. stage.says k file) (λ f. tt) (judge_string k (stage.stops k file) (stage.string k file))
 
   -- what is known of an accepted file
   pub record Accepted : Type 0 where
@@ -80,7 +83,8 @@ module _ (k : ℕ) (file : List ℕ) where
   unfolding unsummed
   unsummed-accepted z =
       let w = stage.whole k file (number-first (read_records k file) (λ f. giving (λ o. f) (judge_string k f.order f.string)) z) in
-      let s = string-accepted k (stage.stops k file) (stage.string k file) (sym (unsummed-string w) ∙ z) in
+      let s = string-accepted k (stage.stops k file) (stage.string k file)
+      (sym (number-giving (λ o. stage.says k file) (judge_string k (stage.stops k file) (stage.string k file))) ∙ ap number (sym (unsummed-string w)) ∙ z) in
       record { whole = w; allowed = s.0; own = s.1 }
 
   pub unsummed-gives : Accepted → unsummed k file ≡ gives (stage.says k file)
@@ -91,9 +95,9 @@ module _ (k : ℕ) (file : List ℕ) where
 -- ---- a file with its total
 
 module _ (k : ℕ) (t : ℕ → ℕ → ℕ) (file : List ℕ) where
-  pub file-unsummed : (r : ℕ) → r ≡ number (unsummed k file) → (r ≡ 0 → ⊥) → r ≡ number (judge_file k t file)
+  pub file-unsummed : (n : ℕ) → refuses n ≡ done (unsummed k file) → refuses n ≡ done (judge_file k t file)
   unfolding judge_file
-  file-unsummed r e f = rw (refused (unsummed k file) r e f)
+  file-unsummed n e = rw (done-refused (unsummed k file) n e)
 
   pub file-other : Accepted k file → (stage.total k file ≡ total t (stage.stops k file) → ⊥) → judge_file k t file ≡ refuses wrong_total
   unfolding judge_file
@@ -135,14 +139,12 @@ module _ (k : ℕ) (file : List ℕ) (places : ℕ) where
 
 module _ (k : ℕ) (file order : List ℕ) where
   -- a file that is refused
-  pub unsummed-refused : (r : ℕ) → read.read_unsummed k file (length order) ≡ refuses r → read.FileIsUnsummed k file order order (read_answer.Refused r)
-  unfolding read.said
+  pub unsummed-refused : (r : Refusal) → read.read_unsummed k file (length order) ≡ refuses (refusal_number r) → read.FileIsUnsummed k file order order (Err r)
   unsummed-refused r o = record { said = rw o; left = rw o }
 
   -- a file that is read
   pub unsummed-read : (sum : ℕ) (order' : List ℕ) → read.read_unsummed k file (length order) ≡ gives (stage.says k file)
-      → sum ≡ stage.total k file → order' ≡ over (stage.stops k file) order → read.FileIsUnsummed k file order order' (read_answer.Read sum)
-  unfolding read.said
+      → sum ≡ stage.total k file → order' ≡ over (stage.stops k file) order → read.FileIsUnsummed k file order order' (Ok sum)
   unsummed-read sum order' o t w = record { said = rw o (ap gives t); left = rw o w }
 
 -- ---- reading with a table
@@ -193,10 +195,9 @@ module _ (k : ℕ) (table file : List ℕ) (places room : ℕ) where
 
 module _ (k : ℕ) (table file order bits : List ℕ) where
   -- a file that is refused
-  pub read-refused : (r : ℕ) → r ≡ number (read.read_file k table file (length order) (length bits)) → (r ≡ 0 → ⊥) → read.FileIsRead k table file order order bits bits (read_answer.Refused r)
-  unfolding read.said
-  read-refused r e f =
-      let o = refused (read.read_file k table file (length order) (length bits)) r e f in
+  pub read-refused : (r : Refusal) → refuses (refusal_number r) ≡ done (read.read_file k table file (length order) (length bits)) → read.FileIsRead k table file order order bits bits (Err r)
+  read-refused r e =
+      let o = done-refused (read.read_file k table file (length order) (length bits)) (refusal_number r) e in
       record { said = rw o; order_left = rw o; bits_left = rw o }
 
   -- a file that is accepted is the outcome
@@ -209,8 +210,7 @@ module _ (k : ℕ) (table file order bits : List ℕ) where
   -- and is read
   pub read_made : (sum : ℕ) (order' bits' : List ℕ) → number (read.read_file k table file (length order) (length bits)) ≡ 0
       → sum ≡ stage.total k file → order' ≡ over (stage.stops k file) order → bits' ≡ over (stage.string k file) bits
-      → read.FileIsRead k table file order order' bits bits' (read_answer.Read sum)
-  unfolding read.said
+      → read.FileIsRead k table file order order' bits bits' (Ok sum)
   read_made sum order' bits' e t w v =
       let o = read-gives e in
       record { said = rw o (ap gives t); order_left = rw o w; bits_left = rw o v }
@@ -223,26 +223,29 @@ module _ (k : ℕ) (order table : List ℕ) (room : ℕ) where
   unfolding write.write_file
   write-number = number-giving (file_for k (entry (2 ^ k) table)) (lent_order k order (table_fits k (length table) && leb (file_size (2 ^ k)) room))
 
-  -- which test decides: k, the other lengths, then the order, whose fork bits have the same number
+  -- which test decides: k, the other lengths, then the order, whose fork bits are refused alike
   abbrev fits : Bool
   fits = table_fits k (length table) && leb (file_size (2 ^ k)) room
 
-  pub write-k : max_k < k → number (write.write_file k order table room) ≡ wrong_k
-  write-k h = write-number ∙ ap number (lent-k k order fits h)
+  pub write-k : max_k < k → write.write_file k order table room ≡ refuses wrong_k
+  unfolding write.write_file
+  write-k h = rw (lent-k k order fits h)
 
-  pub write-table : k ≤ max_k → (length table ≡ 2 ^ k * 2 ^ k → ⊥) → number (write.write_file k order table room) ≡ wrong_size
-  write-table h t = write-number ∙ ap number (lent-others k order fits h (rw (ne_eqb _ _ t)))
+  pub write-table : k ≤ max_k → (length table ≡ 2 ^ k * 2 ^ k → ⊥) → write.write_file k order table room ≡ refuses wrong_size
+  unfolding write.write_file
+  write-table h t = rw (lent-others k order fits h (rw (ne_eqb _ _ t)))
 
-  pub write-room : k ≤ max_k → length table ≡ 2 ^ k * 2 ^ k → room < file_size (2 ^ k) → number (write.write_file k order table room) ≡ wrong_size
-  write-room h t s = write-number ∙ ap number (lent-others k order fits h (rw (eq-eqb _ _ t) (lt-leb _ _ s)))
+  pub write-room : k ≤ max_k → length table ≡ 2 ^ k * 2 ^ k → room < file_size (2 ^ k) → write.write_file k order table room ≡ refuses wrong_size
+  unfolding write.write_file
+  write-room h t s = rw (lent-others k order fits h (rw (eq-eqb _ _ t) (lt-leb _ _ s)))
 
   pub write-bits : (size : ℕ) → k ≤ max_k → length table ≡ 2 ^ k * 2 ^ k → file_size (2 ^ k) ≤ room → byte_count (2 ^ k) ≤ size
-      → number (write.write_file k order table room) ≡ number (fork_bits k order size)
-  unfolding fork_bits
+      → done (write.write_file k order table room) ≡ done (fork_bits k order size)
+  unfolding write.write_file fork_bits
   write-bits size h t s b =
-      write-number
-      ∙ ap number (lent_same k order fits (bits_fit k size) (λ h. rw (eq-eqb _ _ t, le-leb _ _ s) (sym (le-leb _ _ b))))
-      ∙ sym (number-giving (λ o. bit_string k (forks_of k o)) (lent_order k order (bits_fit k size)))
+      giving-giving (file_for k (entry (2 ^ k) table)) (λ a. tt) (lent_order k order fits)
+      ∙ ap done (lent_same k order fits (bits_fit k size) (λ h. rw (eq-eqb _ _ t, le-leb _ _ s) (sym (le-leb _ _ b))))
+      ∙ sym (giving-giving (λ o. bit_string k (forks_of k o)) (λ a. tt) (lent_order k order (bits_fit k size)))
 
   -- what an accepted order has
   pub record Writes : Type 0 where
@@ -265,15 +268,13 @@ module _ (k : ℕ) (order table : List ℕ) (room : ℕ) where
 
 module _ (k : ℕ) (order table before : List ℕ) where
   -- a file that is not written
-  pub write-refused : (r : ℕ) → r ≡ number (write.write_file k order table (length before)) → (r ≡ 0 → ⊥) → write.FileIsWritten k order table before before (write-answer.Refused r)
-  unfolding write.said
-  write-refused r e f = let o = refused (write.write_file k order table (length before)) r e f in record { said = rw o; left = rw o }
+  pub write-refused : (r : Refusal) → refuses (refusal_number r) ≡ done (write.write_file k order table (length before)) → write.FileIsWritten k order table before before (Err r)
+  write-refused r e = let o = done-refused (write.write_file k order table (length before)) (refusal_number r) e in record { said = rw o; left = rw o }
 
   -- a file that is
   pub write-made : (size : ℕ) (afterwards : List ℕ) → Writes k order table (length before) → size ≡ length (file_for k (entry (2 ^ k) table) (order_in k order))
       → afterwards ≡ over (file_for k (entry (2 ^ k) table) (order_in k order)) before
-      → write.FileIsWritten k order table before afterwards (write-answer.Wrote size)
-  unfolding write.said
+      → write.FileIsWritten k order table before afterwards (Ok size)
   write-made size afterwards w s a =
       let o = write-gives k order table (length before) w in
       record { said = rw o (ap gives s); left = rw o a }

@@ -7,7 +7,9 @@ use native.Mathlib.Omega.{arith}
 use lib.ListN.{length, get_or, take, drop, length-append, length-take, length-drop, drop_of_length-le}
 use lib.Seq.{take_all, take_at, drop_at, length-take-le, take-add, drop-drop}
 use borrow.Author.Tests.{eq-eqb}
-use Rattle.base.specs.Outcome.{gives, giving, number, over}
+use Rattle.std.specs.Prelude.{Result, Ok, Err}
+use Rattle.base.specs.declared.Refusal.{Refusal}
+use Rattle.base.specs.Outcome.{gives, giving, said, number, over}
 use Rattle.base.specs.Size.{max_k}
 use Rattle.base.proofs.Outcome.{number-giving, over-front}
 use Rattle.base.proofs.Size.{pow-le-1024}
@@ -24,10 +26,6 @@ use Rattle.orders.specs.Lent.{order_in, JudgedOrder}
 use Rattle.orders.proofs.Same.{same_alike}
 use Rattle.orders.proofs.Allowed.{below_each, allowed-below, allowed-long}
 use Rattle.orders.proofs.Lent.{holds-order}
-use Rattle.order_file.specs.declared.FileWritten.{FileWritten}
-use Rattle.order_file.specs.declared.FileWritten.TheVariants as write-answer
-use Rattle.order_file.specs.declared.FileRead.{FileRead}
-use Rattle.order_file.specs.declared.FileRead.TheVariants as read_answer
 use Rattle.order_file.specs.File.{stop_bytes, head_bytes, stops_bytes, forks_bytes, end_bytes, order_file, file_for, stops_record, forks_place, end_place, total_place, stops_place, file_size}
 use Rattle.order_file.specs.Reading.{any_version, contents, stops_in, read_records, unsummed, judge_file}
 use Rattle.order_file.specs.Write as write
@@ -184,13 +182,17 @@ accepted-file k t file bytes a e =
 
 -- ---- the same of the calls' answers
 
+-- an answer that gives a number is that number
+only-ok : (r : Result ℕ Refusal) (a : ℕ) → said r ≡ gives a → r ≡ Ok a
+only-ok (Ok x) a e = let s : x ≡ a = cc in ap Ok s
+only-ok (Err n) a e = let z : ◌≡◌ {A = ℕ} 0 1 = cc in absurd (omega arith)
+
 -- a file that was written is read as the order, the total and the fork bits that it was written from
-pub read_again : (k : ℕ) (order table out out' : List ℕ) (size : ℕ) → ((i : ℕ) → get_or table i 0 < 2 ^ 32) → write.FileIsWritten k order table out out' (write-answer.Wrote size)
-    → (places places' room room' : List ℕ) (r : FileRead) → 2 ^ k ≤ length places → byte_count (2 ^ k) ≤ length room
+pub read_again : (k : ℕ) (order table out out' : List ℕ) (size : ℕ) → ((i : ℕ) → get_or table i 0 < 2 ^ 32) → write.FileIsWritten k order table out out' (Ok size)
+    → (places places' room room' : List ℕ) (r : Result ℕ Refusal) → 2 ^ k ≤ length places → byte_count (2 ^ k) ≤ length room
     → read.FileIsRead k table (take size out') places places' room room' r
-    → (r ≡ read_answer.Read (total (entry (2 ^ k) table) (order_in k order))) × (places' ≡ over (order_in k order) places)
+    → (r ≡ Ok (total (entry (2 ^ k) table) (order_in k order))) × (places' ≡ over (order_in k order) places)
     × (room' ≡ over (bit_string k (forks_of k (order_in k order))) room)
-unfolding write.said read.said
 read_again k order table out out' size entries first places places' room room' r fits-order Fits-bits second =
     let t : ℕ → ℕ → ℕ = entry (2 ^ k) table in
     let o : List ℕ = order_in k order in
@@ -210,21 +212,16 @@ read_again k order table out out' size entries first places places' room room' r
     = read-contents k table (take size out') (length places) (length room) lent
     ∙ ap (judge_file k t) bytes
     ∙ file-good k t o w.judged.small w.judged.allowed (total-fits k table o w.judged.small long entries) in
-    (only-read r (total t o) (second.said ∙ rw is), second.order_left ∙ rw is, second.bits_left ∙ rw is)
+    (only-ok r (total t o) (second.said ∙ rw is), second.order_left ∙ rw is, second.bits_left ∙ rw is)
   where
     gives_same : (a b : ℕ) → gives a ≡ gives b → a ≡ b
     gives_same a b e = cc
 
-    only-read : (r : FileRead) (sum : ℕ) → read.said r ≡ gives sum → r ≡ read_answer.Read sum
-    only-read (read_answer.Read x) sum e = let s : x ≡ sum = cc in ap read_answer.Read s
-    only-read (read_answer.Refused n) sum e = let z : ◌≡◌ {A = ℕ} 0 1 = cc in absurd (omega arith)
-
 -- a file that was accepted is written again, byte for byte, from the order that was read
 pub write_again : (k : ℕ) (table file order order' bits bits' : List ℕ) (sum : ℕ) → are_bytes file ≡ true
-    → read.FileIsRead k table file order order' bits bits' (read_answer.Read sum)
-    → (out out' : List ℕ) (r : FileWritten) → file_size (2 ^ k) ≤ length out → write.FileIsWritten k order' table out out' r
-    → (r ≡ write-answer.Wrote (length file)) × (out' ≡ over file out)
-unfolding read.said write.said
+    → read.FileIsRead k table file order order' bits bits' (Ok sum)
+    → (out out' : List ℕ) (r : Result ℕ Refusal) → file_size (2 ^ k) ≤ length out → write.FileIsWritten k order' table out out' r
+    → (r ≡ Ok (length file)) × (out' ≡ over file out)
 write_again k table file order order' bits bits' sum bytes first out out' r room second =
     let t : ℕ → ℕ → ℕ = entry (2 ^ k) table in
     let z : number (read.read_file k table file (length order) (length bits)) ≡ 0
@@ -238,8 +235,4 @@ write_again k table file order order' bits bits' sum bytes first out out' r room
     let w : Writes k order' table (length out) = record { judged = judged; square = l.0.square; long = room } in
     let same : file_for k t (order_in k order') ≡ file = ap (file_for k t) front ∙ sym (accepted-file k t file bytes a.0 a.1) in
     let is : write.write_file k order' table (length out) ≡ gives file = write-gives k order' table (length out) w ∙ ap gives same in
-    (only_wrote r (length file) (second.said ∙ rw is), second.left ∙ rw is)
-  where
-    only_wrote : (r : FileWritten) (size : ℕ) → write.said r ≡ gives size → r ≡ write-answer.Wrote size
-    only_wrote (write-answer.Wrote x) size e = let s : x ≡ size = cc in ap write-answer.Wrote s
-    only_wrote (write-answer.Refused n) size e = let z : ◌≡◌ {A = ℕ} 0 1 = cc in absurd (omega arith)
+    (only-ok r (length file) (second.said ∙ rw is), second.left ∙ rw is)

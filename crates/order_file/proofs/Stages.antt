@@ -10,14 +10,17 @@ use lib.Dec.{eqb, leb}
 use lib.ListN.{length, take, drop, length-drop}
 use lib.Seq.{take-take, drop-drop}
 use borrow.Author.Tests.{eq-eqb, ne_eqb, le-leb, lt-leb, leb-true, eqb-true}
-use Rattle.base.specs.Refusal.{wrong_k, trailing_bytes}
-use Rattle.base.specs.Outcome.{Outcome, gives, need, unless, and_then, number}
+use Rattle.base.specs.Refusal.{refusal_number, wrong_k, trailing_bytes}
+use Rattle.base.specs.declared.Refusal.{Refusal}
+use Rattle.base.specs.Outcome.{Outcome, gives, refuses, need, unless, and_then, done, number}
+use Rattle.base.proofs.Numbered.{refusal_numbered}
 use Rattle.base.proofs.Outcome.{passed, unless-zero, unless-refused, unless-passed}
 use Rattle.records.specs.Field.{number_of}
 use Rattle.records.specs.Record.{Taken, taken, take_record, record_length, order_kind, stops_kind, forks_kind, end_kind}
 use Rattle.records.proofs.RecordLaws.{by-taken, number-good, taken-whole}
 use Rattle.records.proofs.LengthLaws.{order-length, stops-length, forks-length, end-length}
 use Rattle.orders.specs.Bits.{byte_count}
+use Rattle.orders.proofs.Calls.{done-number, done-refused}
 use Rattle.order_file.specs.File.{stops_record, total_place, stops_place, forks_place, end_place, file_size}
 use Rattle.order_file.specs.Reading.{any_version, Contents, contents, stops_in, read_records}
 use Rattle.order_file.proofs.Bytes.{stops-part}
@@ -29,13 +32,16 @@ take-then : (kind long : ℕ) (s : List ℕ) (next : Taken → Outcome Contents)
 take-then kind long s next rest e =
     by-taken kind long s (λ t. and_then t next ≡ unless (number t) rest) (λ w. e) (λ n f. sym (unless-refused n rest f))
 
--- a record's number decides, or what comes after it does
-module _ (o : Outcome Contents) (a : ℕ) (rest : Outcome Contents) (is : o ≡ unless a rest) (r : ℕ) (e : r ≡ a) where
-  pub record-bad : (r ≡ 0 → ⊥) → r ≡ number o
-  record-bad f = sym (ap number (is ∙ ap (λ (x : ℕ). unless x rest) (sym e) ∙ unless-refused r rest f))
+-- a record decides, or what comes after it does
+module _ (o : Outcome Contents) (t : Outcome Taken) (rest : Outcome Contents) (is : o ≡ unless (number t) rest) where
+  pub record-bad : (r : Refusal) → refuses (refusal_number r) ≡ done t → refuses (refusal_number r) ≡ done o
+  record-bad r e =
+      let n : ℕ = refusal_number r in
+      let some : n ≡ 0 → ⊥ = λ z. omega (arith, (refusal_numbered r).first) in
+      sym (ap done (is ∙ ap (λ (x : Outcome Taken). unless (number x) rest) (done-refused t n e) ∙ unless-refused n rest some))
 
-  pub record-good : r ≡ 0 → o ≡ rest
-  record-good z = is ∙ unless-zero a rest (sym e ∙ z)
+  pub record-good : gives tt ≡ done t → o ≡ rest
+  record-good e = is ∙ unless-zero (number t) rest (done-number t e)
 
 -- two drops as one
 drops : (a b c : ℕ) (s : List ℕ) → c ≡ b + a → drop a (drop b s) ≡ drop c s
@@ -154,13 +160,13 @@ module _ (k : ℕ) (file : List ℕ) where
   pub own-good : own_k ≡ k → after_head ≡ unless (number stops_taken) after_stops
   own-good e = rw (eq-eqb own_k k e)
 
-  pub own-bad : (own_k ≡ k → ⊥) → number after_head ≡ wrong_k
+  pub own-bad : (own_k ≡ k → ⊥) → after_head ≡ refuses wrong_k
   own-bad e = rw (ne_eqb own_k k e)
 
-  pub end_more : file_size (2 ^ k) < length file → number after_end ≡ trailing_bytes
+  pub end_more : file_size (2 ^ k) < length file → after_end ≡ refuses trailing_bytes
   end_more h = rw (lt-leb (length file) (file_size n) h)
 
-  pub end-exact : length file ≤ file_size (2 ^ k) → number after_end ≡ 0
+  pub end-exact : length file ≤ file_size (2 ^ k) → after_end ≡ gives says
   end-exact h = rw (le-leb (length file) (file_size n) h)
 
   -- ---- a file whose records are not refused

@@ -9,6 +9,7 @@ use native.Mathlib.Nat.{pow-succ'}
 use native.Mathlib.Decide.{dec_lt}
 use native.Mathlib.Omega.{arith}
 use lib.Dec.{ltb}
+use Rattle.std.specs.List.{list_all}
 use lib.ListN.{length, get_or}
 use lib.Pow.{pow_pos}
 use borrow.Author.Tests.{lt-ltb, ltb-true}
@@ -46,6 +47,12 @@ below-not n o p b h = go (stops_below n o) refl
     go : (t : Bool) → stops_below n o ≡ t → stops_below n o ≡ false
     go true e = absurd (omega (arith, below_each n o e p b))
     go false e = e
+
+-- the test of all, as a chain has it
+pub stops_below-all : (n : ℕ) (o : List ℕ) → stops_below n o ≡ list_all (λ b. ltb b n) o
+unfolding stops_below
+stops_below-all n [] = refl
+stops_below-all n (a ∷ o) = rw (stops_below-all n o)
 
 -- ---- the sets that give an order
 

@@ -11,7 +11,7 @@ use lib.Bits.{bit_or, or_shr, or_step, or_lt}
 use lib.Dec.{ltb, eqb}
 use lib.ListN.{length, get_or, set, take, drop, length-set}
 use lib.Pow.{pow_pos, pow-add, pow_mono, pow-lt, shr-shr}
-use lib.Seq.{get_or-set_same, get_or-set_other, drop-set-lt}
+use lib.Seq.{get_or-set_same, get_or-set_other, drop-set-lt, get_or-take, length-take-le}
 use borrow.Author.Tests.{lt-ltb, ltb-true, eq-eqb, eqb-true}
 use Rattle.base.specs.Refusal.{wrong_forks}
 use Rattle.base.specs.Outcome.{gives, refuses, number}
@@ -97,6 +97,11 @@ bit_high b x v h =
 pub are_bytes-all : (s : List ℕ) → ((j : ℕ) → j < length s → get_or s j 0 < 256) → are_bytes s ≡ true
 are_bytes-all [] h = are_bytes-nil
 are_bytes-all (b ∷ s) h = rw (are_bytes-cons, lt-ltb b 256 (h 0 (omega arith))) (are_bytes-all s (λ j l. h (suc j) (omega arith)))
+
+-- the first n of a list of bytes
+pub are_bytes-first : (n : ℕ) (s : List ℕ) → ((j : ℕ) → get_or s j 0 < 256) → n ≤ length s → are_bytes (take n s) ≡ true
+are_bytes-first n s h fits =
+    are_bytes-all (take n s) (λ j l. rw (get_or-take n s j 0 (omega (arith, length-take-le n s fits))) (h j))
 
 -- bit v of the number that a string says is bit v of the string: byte v/8, low bit first
 pub bit-number : (s : List ℕ) → are_bytes s ≡ true → (v : ℕ) → bit (set_of_bits s) v ≡ string_bit s v

@@ -7,18 +7,15 @@ use native.Mathlib.Omega.{arith}
 use lib.Dec.{leb, eqb}
 use lib.ListN.{length}
 use borrow.Author.Tests.{le-leb, lt-leb, leb-true}
-use Rattle.base.specs.Refusal.{wrong_k, wrong_size, wrong_forks}
-use Rattle.base.specs.Outcome.{Outcome, gives, refuses, giving, done, number, over}
+use Rattle.std.specs.Prelude.{Result, Ok, Err}
+use Rattle.base.specs.declared.Refusal.{Refusal}
+use Rattle.base.specs.Refusal.{refusal_number, wrong_k, wrong_size, wrong_forks}
+use Rattle.base.specs.Outcome.{Outcome, gives, refuses, giving, done, said, number, over}
 use Rattle.base.specs.Size.{max_k, stop_count}
 use Rattle.base.proofs.Size.{stop_count-pow}
-use Rattle.base.proofs.Outcome.{passed, refused, number-giving, refused-giving}
+use Rattle.base.proofs.Outcome.{passed, number-giving, refused-giving, giving-giving}
 use Rattle.tree.specs.Order.{order_of}
 use Rattle.tree.specs.Total.{entry, total}
-use Rattle.orders.specs.declared.BitsMade.{BitsMade}
-use Rattle.orders.specs.declared.BitsMade.TheVariants as bits-answer
-use Rattle.orders.specs.declared.OrderMade.{OrderMade}
-use Rattle.orders.specs.declared.OrderMade.TheVariants as order-answer
-use Rattle.orders.specs.declared.OrderTotal.TheVariants as total-answer
 use Rattle.orders.specs.Allowed.{forks_of, judge_order}
 use Rattle.orders.specs.Bits.{byte_count, bit_string, only_forks, judge_forks}
 use Rattle.orders.specs.Lent.{order_in, forks_in, order_fits, bits_fit, table_fits, lent_order, JudgedOrder}
@@ -33,15 +30,24 @@ use Rattle.orders.proofs.Size.{byte_count-is}
 pub done-number : {A : Type 0} (o : Outcome A) → gives tt ≡ done o → number o ≡ 0
 done-number o e = sym (number-giving (λ a. tt) o) ∙ sym (ap number e)
 
+-- one that says a refusal tells that this was refused
+pub done-refused : {A : Type 0} (o : Outcome A) (n : ℕ) → refuses n ≡ done o → o ≡ refuses n
+done-refused o n e = refused-giving (λ a. tt) o n (sym e)
+
+-- and one that says 'done' is `Ok`
+pub only-ok : (r : Result Unit Refusal) → said r ≡ gives tt → r ≡ Ok tt
+only-ok (Ok u) e = refl
+only-ok (Err n) e = let z : ◌≡◌ {A = ℕ} 0 1 = cc in absurd (omega arith)
+
 -- ---- fork bits of an order
 
 module _ (k : ℕ) (order : List ℕ) (room : ℕ) where
-  -- the number, with the bytes of a string as code has them
-  pub bits-number : (count : ℕ) → count ≡ byte_count (stop_count k) → number (lent_order k order (leb count room)) ≡ number (bits.fork_bits k order room)
+  -- what it says, with the bytes of a string as code has them
+  pub bits-done : (count : ℕ) → count ≡ byte_count (stop_count k) → done (lent_order k order (leb count room)) ≡ done (bits.fork_bits k order room)
   unfolding bits.fork_bits
-  bits-number count e =
-      ap number (lent_same k order (leb count room) (bits_fit k room) (λ h. ap (λ (x : ℕ). leb x room) (e ∙ byte_count-is k h)))
-      ∙ sym (number-giving (λ o. bit_string k (forks_of k o)) (lent_order k order (bits_fit k room)))
+  bits-done count e =
+      ap done (lent_same k order (leb count room) (bits_fit k room) (λ h. ap (λ (x : ℕ). leb x room) (e ∙ byte_count-is k h)))
+      ∙ sym (giving-giving (λ o. bit_string k (forks_of k o)) (λ a. tt) (lent_order k order (bits_fit k room)))
 
   -- what an accepted order has
   pub bits-judged : number (bits.fork_bits k order room) ≡ 0 → JudgedOrder k order × (byte_count (2 ^ k) ≤ room)
@@ -64,14 +70,12 @@ module _ (k : ℕ) (order : List ℕ) (room : ℕ) where
 
 module _ (k : ℕ) (order before : List ℕ) where
   -- fork bits that are refused
-  pub bits-refused : (r : ℕ) → r ≡ number (bits.fork_bits k order (length before)) → (r ≡ 0 → ⊥) → bits.BitsAreMade k order before before (bits-answer.Refused r)
-  unfolding bits.said
-  bits-refused r e f = let o = refused (bits.fork_bits k order (length before)) r e f in record { said = rw o; left = rw o }
+  pub bits-refused : (r : Refusal) → refuses (refusal_number r) ≡ done (bits.fork_bits k order (length before)) → bits.BitsAreMade k order before before (Err r)
+  bits-refused r e = let o = done-refused (bits.fork_bits k order (length before)) (refusal_number r) e in record { said = e; left = rw o }
 
   -- fork bits that are made
   pub bits-made : (afterwards : List ℕ) → number (bits.fork_bits k order (length before)) ≡ 0 → afterwards ≡ over (bit_string k (forks_of k (order_in k order))) before
-      → bits.BitsAreMade k order before afterwards bits-answer.Made
-  unfolding bits.said
+      → bits.BitsAreMade k order before afterwards (Ok tt)
   bits-made afterwards e w =
       let j = bits-judged k order (length before) e in
       let o = bits-given k order (length before) j.0 j.1 in
@@ -79,45 +83,22 @@ module _ (k : ℕ) (order before : List ℕ) where
 
   -- for callers: what an answer tells, and when the bits are made
   module _ (afterwards : List ℕ) where
-    pub bits-told : (r : BitsMade) (n : ℕ) → bits.BitsAreMade k order before afterwards r → r ≡ bits-answer.Refused n
-        → (bits.fork_bits k order (length before) ≡ refuses n) × (n ≡ 0 → ⊥)
-    unfolding bits.said
-    bits-told r n p e = (is, λ z. none (bits-judged k order (length before) (ap number is ∙ z)))
-      where
-        is : bits.fork_bits k order (length before) ≡ refuses n
-        is = refused-giving (λ s. tt) (bits.fork_bits k order (length before)) n (sym p.said ∙ ap bits.said e)
+    pub bits-told : (n : Refusal) → bits.BitsAreMade k order before afterwards (Err n) → bits.fork_bits k order (length before) ≡ refuses (refusal_number n)
+    bits-told n p = done-refused (bits.fork_bits k order (length before)) (refusal_number n) p.said
 
-        none : JudgedOrder k order × (byte_count (2 ^ k) ≤ length before) → ⊥
-        none j =
-            let g = bits-given k order (length before) j.0 j.1 in
-            let z : ◌≡◌ {A = ℕ} 0 1 = cc in
-            omega arith
-
-    pub when-bits : (r : BitsMade) → bits.BitsAreMade k order before afterwards r → r ≡ bits-answer.Made
+    pub when-bits : bits.BitsAreMade k order before afterwards (Ok tt)
         → JudgedOrder k order × (afterwards ≡ over (bit_string k (forks_of k (order_in k order))) before)
-    unfolding bits.said
-    when-bits r p e =
-        let j = bits-judged k order (length before) (done-number (bits.fork_bits k order (length before)) (sym (ap bits.said e) ∙ p.said)) in
+    when-bits p =
+        let j = bits-judged k order (length before) (done-number (bits.fork_bits k order (length before)) p.said) in
         (j.0, p.left ∙ rw (bits-given k order (length before) j.0 j.1))
 
-    pub bits-when : (r : BitsMade) → JudgedOrder k order → byte_count (2 ^ k) ≤ length before → bits.BitsAreMade k order before afterwards r
-        → (r ≡ bits-answer.Made) × (afterwards ≡ over (bit_string k (forks_of k (order_in k order))) before)
-    unfolding bits.said
+    pub bits-when : (r : Result Unit Refusal) → JudgedOrder k order → byte_count (2 ^ k) ≤ length before → bits.BitsAreMade k order before afterwards r
+        → (r ≡ Ok tt) × (afterwards ≡ over (bit_string k (forks_of k (order_in k order))) before)
     bits-when r j fits p =
         let o = bits-given k order (length before) j fits in
-        (only r (p.said ∙ rw o), p.left ∙ rw o)
-      where
-        only : (r : BitsMade) → bits.said r ≡ gives tt → r ≡ bits-answer.Made
-        only bits-answer.Made e = refl
-        only (bits-answer.Refused n) e = let z : ◌≡◌ {A = ℕ} 0 1 = cc in absurd (omega arith)
+        (only-ok r (p.said ∙ rw o), p.left ∙ rw o)
 
 -- ---- the order of fork bits
-
--- an answer that says 'done' is `Made`
-pub only-made : (r : OrderMade) → order.said r ≡ gives tt → r ≡ order-answer.Made
-unfolding order.said
-only-made order-answer.Made e = refl
-only-made (order-answer.Refused n) e = let z : ◌≡◌ {A = ℕ} 0 1 = cc in absurd (omega arith)
 
 module _ (k : ℕ) (string : List ℕ) (room : ℕ) where
   -- which test decides
@@ -163,30 +144,27 @@ module _ (k : ℕ) (string : List ℕ) (room : ℕ) where
 
 module _ (k : ℕ) (string before : List ℕ) where
   -- an order that is refused
-  pub order-refused : (r : ℕ) → r ≡ number (order.order_of_bits k string (length before)) → (r ≡ 0 → ⊥) → order.OrderIsMade k string before before (order-answer.Refused r)
-  unfolding order.said
-  order-refused r e f = let o = refused (order.order_of_bits k string (length before)) r e f in record { said = rw o; left = rw o }
+  pub order-refused : (r : Refusal) → refuses (refusal_number r) ≡ done (order.order_of_bits k string (length before)) → order.OrderIsMade k string before before (Err r)
+  order-refused r e = let o = done-refused (order.order_of_bits k string (length before)) (refusal_number r) e in record { said = e; left = rw o }
 
   -- an order that is made
   pub order-made : (afterwards : List ℕ) → JudgedForks k string (length before) → afterwards ≡ over (order_of k (forks_in k string)) before
-      → order.OrderIsMade k string before afterwards order-answer.Made
-  unfolding order.said
+      → order.OrderIsMade k string before afterwards (Ok tt)
   order-made afterwards j w = let o = order-given k string (length before) j in record { said = rw o; left = rw o w }
 
   -- for callers: what an answer tells, and when the order is made
   module _ (afterwards : List ℕ) where
-    pub when-order : (r : OrderMade) → order.OrderIsMade k string before afterwards r → r ≡ order-answer.Made
+    pub when-order : order.OrderIsMade k string before afterwards (Ok tt)
         → JudgedForks k string (length before) × (afterwards ≡ over (order_of k (forks_in k string)) before)
-    unfolding order.said
-    when-order r p e =
-        let j = order-judged k string (length before) (done-number (order.order_of_bits k string (length before)) (sym (ap order.said e) ∙ p.said)) in
+    when-order p =
+        let j = order-judged k string (length before) (done-number (order.order_of_bits k string (length before)) p.said) in
         (j, p.left ∙ rw (order-given k string (length before) j))
 
-    pub order-when : (r : OrderMade) → JudgedForks k string (length before) → order.OrderIsMade k string before afterwards r
-        → (r ≡ order-answer.Made) × (afterwards ≡ over (order_of k (forks_in k string)) before)
+    pub order-when : (r : Result Unit Refusal) → JudgedForks k string (length before) → order.OrderIsMade k string before afterwards r
+        → (r ≡ Ok tt) × (afterwards ≡ over (order_of k (forks_in k string)) before)
     order-when r j p =
         let o = order-given k string (length before) j in
-        (only-made r (p.said ∙ rw o), p.left ∙ rw o)
+        (only-ok r (p.said ∙ rw o), p.left ∙ rw o)
 
 -- ---- the total of an order
 
@@ -196,13 +174,13 @@ module _ (k : ℕ) (order table : List ℕ) where
   total-lent n e =
       lent_same k order (eqb (length table) (n * n)) (table_fits k (length table)) (λ h. ap (λ (x : ℕ). eqb (length table) (x * x)) (e ∙ stop_count-pow k h))
 
-  pub total-refused : (r : ℕ) → r ≡ number (lent_order k order (table_fits k (length table))) → (r ≡ 0 → ⊥) → sum.said (total-answer.Refused r) ≡ sum.order_total k order table
-  unfolding sum.said sum.order_total
-  total-refused r e f = rw (refused (lent_order k order (table_fits k (length table))) r e f)
+  pub total-refused : (n : ℕ) → refuses n ≡ done (lent_order k order (table_fits k (length table))) → refuses n ≡ sum.order_total k order table
+  unfolding sum.order_total
+  total-refused n e = rw (done-refused (lent_order k order (table_fits k (length table))) n e)
 
   pub total-given : (t : ℕ) → number (lent_order k order (table_fits k (length table))) ≡ 0 → t ≡ total (entry (2 ^ k) table) (order_in k order)
-      → sum.said (total-answer.Total t) ≡ sum.order_total k order table
-  unfolding sum.said sum.order_total
+      → gives t ≡ sum.order_total k order table
+  unfolding sum.order_total
   total-given t e a =
       let j = lent-judged k order (table_fits k (length table)) e in
       rw (lent_gives k order (table_fits k (length table)) j.0 j.1) (ap gives a)

@@ -6,21 +6,20 @@ use Prim.Native.Nat.{ℕ, ◌^◌, ◌≤◌}
 use lib.Dec.{leb}
 use lib.ListN.{length}
 use borrow.Author.Tests.{le-leb, leb-true}
-use Rattle.base.specs.Refusal.{wrong_forks}
-use Rattle.base.specs.Outcome.{Outcome, gives, refuses, giving, number, over}
+use Rattle.std.specs.Prelude.{Result, Ok, Err}
+use Rattle.base.specs.declared.Refusal.{Refusal}
+use Rattle.base.specs.Refusal.{refusal_number, wrong_forks}
+use Rattle.base.specs.Outcome.{Outcome, gives, refuses, giving, done, number, over}
 use Rattle.base.specs.Size.{stop_count}
 use Rattle.base.proofs.Bools.{both}
-use Rattle.base.proofs.Outcome.{refused, number-giving, number-first}
+use Rattle.base.proofs.Outcome.{number-giving, number-first}
 use Rattle.base.proofs.Size.{stop_count-pow}
-use Rattle.orders.specs.declared.OrderMade.{OrderMade}
-use Rattle.orders.specs.declared.OrderMade.TheVariants.{Made, Refused}
 use Rattle.orders.specs.Bits.{byte_count, only_forks, judge_forks}
 use Rattle.orders.specs.Lent.{order_in, forks_in, order_fits, bits_fit, lent_order, JudgedOrder}
-use Rattle.orders.specs.OrderOfBits.{said}
 use Rattle.orders.specs.Exchange.{exchange, exchange_lent, OrderIsExchanged}
 use Rattle.orders.proofs.Bits.{judge-forks, judge-outside, judged-forks}
 use Rattle.orders.proofs.Lent.{lent-judged, lent_gives, lent_same}
-use Rattle.orders.proofs.Calls.{JudgedForks, done-number, only-made}
+use Rattle.orders.proofs.Calls.{JudgedForks, done-number, done-refused, only-ok}
 
 module _ (k : ℕ) (order bits : List ℕ) (room : ℕ) where
   -- the test of the other lengths, and the order judged with it
@@ -48,9 +47,9 @@ module _ (k : ℕ) (order bits : List ℕ) (room : ℕ) where
   set-decides e = let j = lent-judged k order others e in rw (lent_gives k order others j.0 j.1)
 
   -- which test decides
-  pub exchange-lent : (r : ℕ) → r ≡ number order_judged → (r ≡ 0 → ⊥) → r ≡ number (exchange_lent k order bits room)
+  pub exchange-lent : (n : ℕ) → refuses n ≡ done order_judged → refuses n ≡ done (exchange_lent k order bits room)
   unfolding exchange_lent
-  exchange-lent r e f = rw (refused order_judged r e f)
+  exchange-lent n e = rw (done-refused order_judged n e)
 
   pub exchange-outside : number order_judged ≡ 0 → only_forks k (forks_in k bits) ≡ false → exchange_lent k order bits room ≡ refuses wrong_forks
   exchange-outside e f = set-decides e ∙ rw (judge-outside k (forks_in k bits) f)
@@ -82,27 +81,24 @@ module _ (k : ℕ) (order bits : List ℕ) (room : ℕ) where
 
 module _ (k : ℕ) (order bits before : List ℕ) where
   -- an exchange that is refused
-  pub exchange-refused : (r : ℕ) → r ≡ number (exchange_lent k order bits (length before)) → (r ≡ 0 → ⊥) → OrderIsExchanged k order bits before before (Refused r)
-  unfolding said
-  exchange-refused r e f = let o = refused (exchange_lent k order bits (length before)) r e f in record { said = rw o; left = rw o }
+  pub exchange-refused : (r : Refusal) → refuses (refusal_number r) ≡ done (exchange_lent k order bits (length before)) → OrderIsExchanged k order bits before before (Err r)
+  exchange-refused r e = let o = done-refused (exchange_lent k order bits (length before)) (refusal_number r) e in record { said = e; left = rw o }
 
   -- and one that is made
   pub exchange-made : (afterwards : List ℕ) → JudgedExchange k order bits (length before) → afterwards ≡ over (exchange k (order_in k order) (forks_in k bits)) before
-      → OrderIsExchanged k order bits before afterwards Made
-  unfolding said
+      → OrderIsExchanged k order bits before afterwards (Ok tt)
   exchange-made afterwards j w = let o = exchange-given k order bits (length before) j in record { said = rw o; left = rw o w }
 
   -- for callers: what an answer tells, and when the exchange is made
   module _ (afterwards : List ℕ) where
-    pub when-exchanged : (r : OrderMade) → OrderIsExchanged k order bits before afterwards r → r ≡ Made
+    pub when-exchanged : OrderIsExchanged k order bits before afterwards (Ok tt)
         → JudgedExchange k order bits (length before) × (afterwards ≡ over (exchange k (order_in k order) (forks_in k bits)) before)
-    unfolding said
-    when-exchanged r p e =
-        let j = exchange-judged k order bits (length before) (done-number (exchange_lent k order bits (length before)) (sym (ap said e) ∙ p.said)) in
+    when-exchanged p =
+        let j = exchange-judged k order bits (length before) (done-number (exchange_lent k order bits (length before)) p.said) in
         (j, p.left ∙ rw (exchange-given k order bits (length before) j))
 
-    pub exchanged-when : (r : OrderMade) → JudgedExchange k order bits (length before) → OrderIsExchanged k order bits before afterwards r
-        → (r ≡ Made) × (afterwards ≡ over (exchange k (order_in k order) (forks_in k bits)) before)
+    pub exchanged-when : (r : Result Unit Refusal) → JudgedExchange k order bits (length before) → OrderIsExchanged k order bits before afterwards r
+        → (r ≡ Ok tt) × (afterwards ≡ over (exchange k (order_in k order) (forks_in k bits)) before)
     exchanged-when r j p =
         let o = exchange-given k order bits (length before) j in
-        (only-made r (p.said ∙ rw o), p.left ∙ rw o)
+        (only-ok r (p.said ∙ rw o), p.left ∙ rw o)

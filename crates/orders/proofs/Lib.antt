@@ -5,6 +5,7 @@ pub mod Allowed
 pub mod Bits
 pub mod Marks
 pub mod Size
+pub mod Filled
 pub mod Shift
 pub mod Lent
 pub mod Calls

@@ -1,5 +1,5 @@
 -- The two calls undo each other: the bits of an allowed order give that order again, and the order of fork bits gives those bits.
-use mathlib.Core.Path.{◌≡◌, refl, ap, ◌∙◌}
+use mathlib.Core.Path.{◌≡◌, ap, ◌∙◌}
 use mathlib.Core.Bool.{true}
 use mathlib.Core.List.{List}
 use Prim.Native.Nat.{ℕ, ◌^◌, ◌≤◌}
@@ -11,10 +11,8 @@ use Rattle.records.specs.Field.{are_bytes}
 use Rattle.records.proofs.FieldLaws.{length-bytes_of, are_bytes-take}
 use Rattle.tree.specs.Order.{order_of}
 use Rattle.tree.proofs.Link.{length-order_of}
-use Rattle.orders.specs.declared.BitsMade.{BitsMade}
-use Rattle.orders.specs.declared.BitsMade.TheVariants as bits-answer
-use Rattle.orders.specs.declared.OrderMade.{OrderMade}
-use Rattle.orders.specs.declared.OrderMade.TheVariants as order-answer
+use Rattle.std.specs.Prelude.{Result, Ok}
+use Rattle.base.specs.declared.Refusal.{Refusal}
 use Rattle.orders.specs.Allowed.{forks_of}
 use Rattle.orders.specs.Bits.{byte_count, bit_string}
 use Rattle.orders.specs.Lent.{order_in, forks_in, JudgedOrder}
@@ -26,10 +24,10 @@ use Rattle.orders.proofs.Lent.{holds-order}
 use Rattle.orders.proofs.Calls.{JudgedForks, when-bits, bits-when, when-order, order-when}
 
 -- fork bits that were made, handed to the second call with a buffer that is long enough, give the order again
-pub made_again : (k : ℕ) (order room string buffer afterwards : List ℕ) (r : OrderMade) → BitsAreMade k order room string bits-answer.Made
-    → 2 ^ k ≤ length buffer → OrderIsMade k string buffer afterwards r → (r ≡ order-answer.Made) × (afterwards ≡ over (order_in k order) buffer)
+pub made_again : (k : ℕ) (order room string buffer afterwards : List ℕ) (r : Result Unit Refusal) → BitsAreMade k order room string (Ok tt)
+    → 2 ^ k ≤ length buffer → OrderIsMade k string buffer afterwards r → (r ≡ Ok tt) × (afterwards ≡ over (order_in k order) buffer)
 made_again k order room string buffer afterwards r first fits second =
-    let made = when-bits k order room string bits-answer.Made first refl in
+    let made = when-bits k order room string first in
     let o : List ℕ = order_in k order in
     let F : ℕ = forks_of k o in
     let g = forks_of-gives k o made.0.allowed in
@@ -45,11 +43,11 @@ made_again k order room string buffer afterwards r first fits second =
     (again.0, again.1 ∙ ap (λ (x : List ℕ). over x buffer) (ap (order_of k) set ∙ g.given))
 
 -- and the order that was made gives the bits again
-pub bits-made-again : (k : ℕ) (bits room order buffer afterwards : List ℕ) (r : BitsMade) → are_bytes bits ≡ true → OrderIsMade k bits room order order-answer.Made
+pub bits-made-again : (k : ℕ) (bits room order buffer afterwards : List ℕ) (r : Result Unit Refusal) → are_bytes bits ≡ true → OrderIsMade k bits room order (Ok tt)
     → byte_count (2 ^ k) ≤ length buffer → BitsAreMade k order buffer afterwards r
-    → (r ≡ bits-answer.Made) × (afterwards ≡ over (take (byte_count (2 ^ k)) bits) buffer)
+    → (r ≡ Ok tt) × (afterwards ≡ over (take (byte_count (2 ^ k)) bits) buffer)
 bits-made-again k bits room order buffer afterwards r bytes first fits second =
-    let made = when-order k bits room order order-answer.Made first refl in
+    let made = when-order k bits room order first in
     let F : ℕ = forks_in k bits in
     let m : ℕ = byte_count (2 ^ k) in
     let only = only-forks k F made.0.only in

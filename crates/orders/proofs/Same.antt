@@ -6,6 +6,7 @@ use Prim.Native.Nat.{ℕ, ◌+◌, ◌≤◌, ◌<◌}
 use native.Mathlib.Omega.{arith}
 use lib.Dec.{eqb}
 use lib.ListN.{get_or}
+use Rattle.std.specs.Cmp.Lexicographic.{pointwise}
 use borrow.Author.Tests.{eqb-true, eqb-false, eq-eqb}
 use Rattle.base.proofs.Bools.{both}
 use Rattle.orders.specs.Same.{alike}
@@ -31,6 +32,14 @@ pub alike_refl : (o : List ℕ) → alike o o ≡ true
 unfolding alike
 alike_refl [] = refl
 alike_refl (a ∷ o) = rw (eq-eqb a a refl) (alike_refl o)
+
+-- the test of slices is the same test
+pub alike-slices : (o u : List ℕ) → pointwise eqb o u ≡ alike o u
+unfolding alike
+alike-slices [] [] = refl
+alike-slices [] (b ∷ u) = refl
+alike-slices (a ∷ o) [] = refl
+alike-slices (a ∷ o) (b ∷ u) = rw (alike-slices o u)
 
 -- lists that are the same pass
 pub same_alike : (o u : List ℕ) → o ≡ u → alike o u ≡ true

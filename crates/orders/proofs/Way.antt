@@ -1,25 +1,27 @@
 -- The way down from the root by the bits of a string.
 use mathlib.Core.Path.{◌≡◌, refl, sym, ap, ◌∙◌}
+use mathlib.Core.Bool.{true}
 use mathlib.Core.List.{List}
 use Prim.Native.Nat.{ℕ, zero, suc, ◌+◌, ◌*◌, ◌-◌, ◌/◌, ◌%◌, ◌^◌, ◌≤◌, ◌<◌}
 use native.Mathlib.Nat.{pow-succ'}
 use native.Mathlib.Omega.{arith}
-use lib.ListN.{length, get_or, take}
+use lib.ListN.{length, take}
 use lib.Pow.{pow_mono}
 use lib.Seq.{get_or-take, length-take-le}
+use Rattle.records.specs.Field.{are_bytes}
 use Rattle.tree.specs.Fork.{bit, side}
 use Rattle.tree.specs.Order.{down}
 use Rattle.orders.specs.Bits.{byte_count, set_of_bits, string_bit}
-use Rattle.orders.proofs.Bits.{bit-number, are_bytes-all}
+use Rattle.orders.proofs.Bits.{bit-number}
 
--- a fork's bit in the first bytes of a list of bytes
-pub fork-bit : (k : ℕ) (s : List ℕ) → ((j : ℕ) → get_or s j 0 < 256) → byte_count (2 ^ k) ≤ length s → (v : ℕ) → v < 2 ^ k
+-- a fork's bit in the first bytes of a list
+pub fork-bit : (k : ℕ) (s : List ℕ) → are_bytes (take (byte_count (2 ^ k)) s) ≡ true → byte_count (2 ^ k) ≤ length s → (v : ℕ) → v < 2 ^ k
     → string_bit s v ≡ bit (set_of_bits (take (byte_count (2 ^ k)) s)) v
 fork-bit k s bytes fits v b =
     let m : ℕ = byte_count (2 ^ k) in
     let l : length (take m s) ≡ m = length-take-le m s fits in
     let same : string_bit (take m s) v ≡ string_bit s v = rw (get_or-take m s (v / 8) 0 (omega arith)) in
-    sym (bit-number (take m s) (are_bytes-all (take m s) (λ j c. rw (get_or-take m s j 0 (omega arith)) (bytes j))) v ∙ same)
+    sym (bit-number (take m s) bytes v ∙ same)
 
 -- d depths above the stops of a tree of 2^k: the fork v that the bits of place p lead to, and the rest of the way
 pub record Way (k F p d v : ℕ) : Type 0 where

@@ -1,16 +1,15 @@
 -- An exchange of forks: 'a call that takes an allowed order and a set of forks and gives the order with those forks' states inverted.
 -- Forks are named by the tree, so a set always means the same groups.'
-use Rattle.std.specs.Prelude.{◌≡◌, ◌&&◌, List, ℕ, length, get_or}
+use Rattle.std.specs.Prelude.{◌≡◌, ◌&&◌, List, ℕ, length, get_or, Result}
 use Rattle.std.specs.Int.Bits.{bit_xor}
-use Rattle.base.specs.Outcome.{Outcome, and_then, giving, done, after}
+use Rattle.base.specs.declared.Refusal.{Refusal}
+use Rattle.base.specs.Outcome.{Outcome, and_then, giving, done, said, after}
 use Rattle.base.specs.Buffer.{Unsigned, SharedUnsigned, at_entry, at_exit, contents}
 use Rattle.base.specs.Lists.{tabulate}
 use Rattle.tree.specs.Order.{order_of}
-use Rattle.orders.specs.declared.OrderMade.{OrderMade}
 use Rattle.orders.specs.Allowed.{forks_of}
 use Rattle.orders.specs.Bits.{judge_forks}
 use Rattle.orders.specs.Lent.{forks_in, order_fits, bits_fit, lent_order}
-use Rattle.orders.specs.OrderOfBits.{said}
 
 -- 'the order with those forks' states inverted': the order that the symmetric difference of its own set of forks and the set X gives
 unfoldable pub exchange : (k : ℕ) (o : List ℕ) (X : ℕ) → List ℕ
@@ -24,12 +23,12 @@ exchange_lent k order bits room =
     giving (exchange k o) (judge_forks k (forks_in k bits)))
 
 -- the promise: the answer, and the lent places before and after
-pub record OrderIsExchanged (k : ℕ) (order bits before afterwards : List ℕ) (r : OrderMade) : Type 0 where
+pub record OrderIsExchanged (k : ℕ) (order bits before afterwards : List ℕ) (r : Result Unit Refusal) : Type 0 where
   pub said : said r ≡ done (exchange_lent k order bits (length before))
   pub left : afterwards ≡ after (exchange_lent k order bits (length before)) (λ o. o) before
 
 -- the same of the call's parameters
-abbrev pub ExchangesForks : ℕ → SharedUnsigned → SharedUnsigned → Unsigned → OrderMade → Type 0
+abbrev pub ExchangesForks : ℕ → SharedUnsigned → SharedUnsigned → Unsigned → Result Unit Refusal → Type 0
 ExchangesForks k order bits out r = OrderIsExchanged k (contents order) (contents bits) (at_entry out) (at_exit out) r
 
 -- the first m bytes of a string, each with the bits inverted that the other string has there

@@ -1,26 +1,56 @@
 // A lent order is judged: k, the lengths, every stop number, then Theorem 7's test at every place.
-ghost use Rattle.std.specs.Prelude.{◌≡◌, true, ◌≤◌, ◌<◌, ◌^◌, length, take};
-ghost use Rattle.base.specs.Outcome.{number};
+ghost use Rattle.std.specs.Prelude.{◌≡◌, true, ◌≤◌, ◌<◌, ◌^◌, length};
+ghost use Rattle.base.specs.Outcome.{done, said};
 ghost use Rattle.base.specs.Size.{max_k};
 ghost use Rattle.tree.specs.Neighbour.{may_follow};
 ghost use Rattle.orders.specs.Allowed.{stops_below, is_allowed, judge_order};
 ghost use Rattle.orders.specs.Lent.{order_in, lent_order};
 
-use base::{MAX_K, NO_SUCH_STOP, NOT_ALLOWED, WRONG_K, WRONG_SIZE, stop_count};
+use base::{MAX_K, Refusal, stop_count};
 
-// Whether the first n numbers are all below n.
-fn stops_below(n: usize, order: &[u16]) -> bool
-    requires { n ≤ length order.now }
-    ensures { result ≡ stops_below n (take n order.now) }
-{
-    let mut p = 0;
-    while p < n {
-        if n <= order[p] as usize {
-            return false;
-        }
-        p += 1;
+// A lent order of a tree: k, and at least n numbers, of which only the first n are looked at.
+#[derive(Clone, Copy)]
+pub struct LentOrder<'a> {
+    pub k: u16,
+    pub stops: &'a [u16],
+    ghost small: { k ≤ max_k },
+    ghost long: { 2 ^ k ≤ length stops.now },
+}
+
+impl<'a> LentOrder<'a> {
+    // Whether all are below n.
+    fn stops_below(self) -> bool
+        ensures { result ≡ stops_below (2 ^ self.entry.k) (order_in self.entry.k self.entry.stops.now) }
+    {
+        let n = stop_count(self.k);
+        self.stops[..n].iter().all(|stop| (*stop as usize) < n)
     }
-    true
+
+    // Whether they are an allowed order, if all are below n.
+    fn is_allowed(self) -> bool
+        requires { stops_below (2 ^ self.k) (order_in self.k self.stops.now) ≡ true }
+        ensures { result ≡ is_allowed self.entry.k (order_in self.entry.k self.entry.stops.now) }
+    {
+        for p in 1..stop_count(self.k) {
+            if !may_follow(p, self.stops[p - 1], self.stops[p]) {
+                return false;
+            }
+        }
+        true
+    }
+
+    // Judges them: no such stop, then not allowed.
+    fn judge(self) -> Result<(), Refusal>
+        ensures { said result ≡ done (judge_order self.entry.k (order_in self.entry.k self.entry.stops.now)) }
+    {
+        if !self.stops_below() {
+            return Err(Refusal::NoSuchStop);
+        }
+        if !self.is_allowed() {
+            return Err(Refusal::NotAllowed);
+        }
+        Ok(())
+    }
 }
 
 // Whether stop b may stand in place p after stop a: their exclusive or is at least r and less than 2r.
@@ -30,54 +60,18 @@ fn may_follow(p: usize, a: u16, b: u16) -> bool
 {
     let r = tree::reach(p);
     let x = (a ^ b) as usize;
-    if x < r {
-        return false;
-    }
-    x - r < r
+    r <= x && x - r < r
 }
 
-// Whether the first n numbers, all below n = 2^k, are an allowed order.
-fn is_allowed(k: u16, n: usize, order: &[u16]) -> bool
-    requires { (n ≡ 2 ^ k) × (n ≤ length order.now) × (stops_below n (take n order.now) ≡ true) }
-    ensures { result ≡ is_allowed k (take n order.now) }
-{
-    let mut p = 1;
-    while p < n {
-        if !may_follow(p, order[p - 1], order[p]) {
-            return false;
-        }
-        p += 1;
-    }
-    true
-}
-
-// 0, 9 or 10 for the first n numbers.
-fn judge_stops(k: u16, order: &[u16]) -> u16
-    requires { (k ≤ max_k) × (2 ^ k ≤ length order.now) }
-    ensures { result ≡ number (judge_order k (order_in k order.now)) }
-{
-    let n = stop_count(k);
-    if !stops_below(n, order) {
-        return NO_SUCH_STOP;
-    }
-    if !is_allowed(k, n, order) {
-        return NOT_ALLOWED;
-    }
-    0
-}
-
-// 0 where the first n numbers are an allowed order and whatever else is lent fits, and otherwise the refusal's number.
-pub fn judge_lent(k: u16, order: &[u16], fits: bool) -> u16
-    ensures { result ≡ number (lent_order k order.now fits) }
+// Judges a lent order: its first n numbers are an allowed order, and whatever else is lent fits.
+pub fn judge_lent(k: u16, order: &[u16], fits: bool) -> Result<(), Refusal>
+    ensures { said result ≡ done (lent_order k order.now fits) }
 {
     if MAX_K < k {
-        return WRONG_K;
+        return Err(Refusal::WrongK);
     }
-    if order.len() < stop_count(k) {
-        return WRONG_SIZE;
+    if order.len() < stop_count(k) || !fits {
+        return Err(Refusal::WrongSize);
     }
-    if !fits {
-        return WRONG_SIZE;
-    }
-    judge_stops(k, order)
+    LentOrder { k, stops: order }.judge()
 }

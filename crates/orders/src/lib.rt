@@ -1,48 +1,28 @@
 // Orders and fork bits: an order is judged, turned into fork bits and back, forks are exchanged in it, and its total is summed.
 //
-// No public function has a `requires`. A refusal gives its number and touches no lent buffer; after success an output holds the
-// result first and is untouched beyond.
+// No public function has a `requires`. A refusal touches no lent buffer; after success an output holds the result first and is
+// untouched beyond.
 
 #![tactic(auto)]
 
 mod exchanges;
 mod forks;
 mod judge;
-mod places;
 mod sum;
 
 ghost use Rattle.std.specs.Prelude.{◌≡◌};
+ghost use Rattle.base.specs.Outcome.{said};
 ghost use Rattle.base.specs.Size.{stop_count};
 ghost use Rattle.orders.specs.Bits.{byte_count};
 ghost use Rattle.orders.specs.Exchange.{ExchangesForks};
 ghost use Rattle.orders.specs.ForkBits.{MakesBits};
 ghost use Rattle.orders.specs.OrderOfBits.{MakesOrder};
-ghost use Rattle.orders.specs.OrderTotal.{order_total, said};
+ghost use Rattle.orders.specs.OrderTotal.{order_total};
 
-use base::stop_count;
+use base::{Refusal, stop_count};
+use forks::ForkString;
 pub use judge::judge_lent;
 pub use sum::sum_moves;
-
-// The fork bits were written, or the refusal's number.
-#[derive(Clone, Copy)]
-pub enum BitsMade {
-    Made,
-    Refused(u16),
-}
-
-// The order was written, or the refusal's number.
-#[derive(Clone, Copy)]
-pub enum OrderMade {
-    Made,
-    Refused(u16),
-}
-
-// The total of an order, or the refusal's number.
-#[derive(Clone, Copy)]
-pub enum OrderTotal {
-    Total(u64),
-    Refused(u16),
-}
 
 // ceil(n/8), the bytes of a fork string. A building block: k above 10, which has no stops, gives 0.
 pub fn byte_count(k: u16) -> usize
@@ -53,51 +33,39 @@ pub fn byte_count(k: u16) -> usize
 
 // The fork bits of an order, ceil(n/8) bytes. Refused are k above 10 (5), an order or a buffer too short (8), a stop number n or more
 // (9) and an order that is not allowed (10).
-pub fn fork_bits(k: u16, order: &[u16], bits: &mut [u8]) -> BitsMade
+pub fn fork_bits(k: u16, order: &[u16], bits: &mut [u8]) -> Result<(), Refusal>
     ensures { MakesBits k order bits result }
 {
-    let refused = judge_lent(k, order, byte_count(k) <= bits.len());
-    if refused != 0 {
-        return BitsMade::Refused(refused);
-    }
+    judge_lent(k, order, byte_count(k) <= bits.len())?;
     forks::write_bits(k, order, bits);
-    BitsMade::Made
+    Ok(())
 }
 
 // The order of fork bits, n stops. Refused are k above 10 (5), a string or a buffer too short (8) and a bit outside 1 to n - 1 (12).
-pub fn order_of_bits(k: u16, bits: &[u8], order: &mut [u16]) -> OrderMade
+pub fn order_of_bits(k: u16, bits: &[u8], order: &mut [u16]) -> Result<(), Refusal>
     ensures { MakesOrder k bits order result }
 {
-    let refused = forks::judge_string(k, bits, order.len());
-    if refused != 0 {
-        return OrderMade::Refused(refused);
-    }
-    places::write_order(k, bits, order);
-    OrderMade::Made
+    forks::judge_string(k, bits, order.len())?;
+    ForkString { k, bytes: bits }.write_order(order);
+    Ok(())
 }
 
 // An order with the states of a set of forks inverted, n stops; bit v of the string is fork v. Refused are k above 10 (5), an order, a
 // string or a buffer too short (8), a stop number n or more (9), an order that is not allowed (10) and a bit outside 1 to n - 1 (12).
-pub fn exchange(k: u16, order: &[u16], bits: &[u8], out: &mut [u16]) -> OrderMade
+pub fn exchange(k: u16, order: &[u16], bits: &[u8], out: &mut [u16]) -> Result<(), Refusal>
     ensures { ExchangesForks k order bits out result }
 {
-    let refused = exchanges::judge_exchange(k, order, bits, out.len());
-    if refused != 0 {
-        return OrderMade::Refused(refused);
-    }
+    exchanges::judge_exchange(k, order, bits, out.len())?;
     exchanges::write_exchanged(k, order, bits, out);
-    OrderMade::Made
+    Ok(())
 }
 
 // The total of an order by a table of n² entries. Refused are k above 10 (5), an order too short or a table of another length (8), a
 // stop number n or more (9) and an order that is not allowed (10).
-pub fn order_total(k: u16, order: &[u16], table: &[u32]) -> OrderTotal
+pub fn order_total(k: u16, order: &[u16], table: &[u32]) -> Result<u64, Refusal>
     ensures { said result ≡ order_total k order.now table.now }
 {
     let n = stop_count(k);
-    let refused = judge_lent(k, order, table.len() == n * n);
-    if refused != 0 {
-        return OrderTotal::Refused(refused);
-    }
-    OrderTotal::Total(sum_moves(k, order, table))
+    judge_lent(k, order, table.len() == n * n)?;
+    Ok(sum_moves(k, order, table))
 }

@@ -10,8 +10,8 @@ use lib.ListN.{length, drop, length-drop}
 use lib.Seq.{drop-drop}
 use borrow.Author.Tests.{eqb-true, eqb-false, ne_eqb, le-leb}
 use Rattle.base.specs.Refusal.{trailing_bytes}
-use Rattle.base.specs.Outcome.{gives, refuses, need, and_then, giving, number}
-use Rattle.base.proofs.Outcome.{refused, number-giving}
+use Rattle.base.specs.Outcome.{gives, refuses, need, and_then, giving, done, number}
+use Rattle.base.proofs.Outcome.{refused, number-giving, giving-giving}
 use Rattle.base.specs.Lists.{tabulate}
 use Rattle.base.proofs.Lists.{tabulate-cong}
 use Rattle.records.specs.Record.{record_length, take_record}
@@ -38,22 +38,22 @@ body-suc version n s = refl
 pub body-after : (version n : ℕ) (s : List ℕ) → number (read_stop version s) ≡ 0 → read_body version (suc n) s ≡ giving (λ ss. stop_of version (drop 4 s) ∷ ss) (read_body version n (drop (stop_size version) s))
 body-after version n s h = body-suc version n s ∙ stop-good version (read_body version n) s h
 
--- a refused stop's number is the body's
-pub body_refused : (version n : ℕ) (s : List ℕ) (r : ℕ) → r ≡ number (read_stop version s) → (r ≡ 0 → ⊥) → read_body version (suc n) s ≡ refuses r
-body_refused version n s r e f = body-suc version n s ∙ stop-bad version (read_body version n) s r e f
+-- a refused stop refuses the body
+pub body_refused : (version n : ℕ) (s : List ℕ) (r : ℕ) → read_stop version s ≡ refuses r → read_body version (suc n) s ≡ refuses r
+body_refused version n s r e = body-suc version n s ∙ stop-bad version (read_body version n) s r e
 
--- at the place of stop i of some bytes: after a good one the number is that of the rest
-pub place_after : (version n i : ℕ) (bytes : List ℕ) → number (read_stop version (drop (stop_place version i) bytes)) ≡ 0 → number (read_body version (suc n) (drop (stop_place version i) bytes)) ≡ number (read_body version n (drop (stop_place version (suc i)) bytes))
+-- at the place of stop i of some bytes: after a good one what is said is what the rest says
+pub place_after : (version n i : ℕ) (bytes : List ℕ) → number (read_stop version (drop (stop_place version i) bytes)) ≡ 0 → done (read_body version (suc n) (drop (stop_place version i) bytes)) ≡ done (read_body version n (drop (stop_place version (suc i)) bytes))
 place_after version n i bytes h =
-    ap number (body-after version n (drop (stop_place version i) bytes) h)
-    ∙ number-giving _ (read_body version n (drop (stop_size version) (drop (stop_place version i) bytes)))
-    ∙ ap (λ (s : List ℕ). number (read_body version n s)) (drop-drop (stop_size version) (stop_place version i) bytes ∙ rw place-suc)
+    ap done (body-after version n (drop (stop_place version i) bytes) h)
+    ∙ giving-giving _ (λ ss. tt) (read_body version n (drop (stop_size version) (drop (stop_place version i) bytes)))
+    ∙ ap (λ (s : List ℕ). done (read_body version n s)) (drop-drop (stop_size version) (stop_place version i) bytes ∙ rw place-suc)
 
 -- ---- the end
 
 module _ (version : ℕ) (s : List ℕ) where
-  pub end_refused : (n : ℕ) → n ≡ number (take_record 3 (record_length 3 version 0) s) → (n ≡ 0 → ⊥) → read_body version 0 s ≡ refuses n
-  end_refused n e f = rw (body-zero version s, refused (take_record 3 (record_length 3 version 0) s) n e f)
+  pub end_refused : (n : ℕ) → take_record 3 (record_length 3 version 0) s ≡ refuses n → read_body version 0 s ≡ refuses n
+  end_refused n e = rw (body-zero version s, e)
 
   end-taken : number (take_record 3 (record_length 3 version 0) s) ≡ 0 → read_body version 0 s ≡ need (eqb (length (drop 4 s)) 0) trailing_bytes (gives [])
   unfolding end_of
@@ -122,7 +122,7 @@ body_is version (suc n) s e = pick (eqb (number (read_stop version s)) 0) refl (
           size = rw suc-mul (omega arith);
           range = ap all_in_range (sym (stops-after version n s)) ∙ rw (stop-range version s first, b.range);
         }
-    pick false t ih = absurd (eqb-false _ _ t (sym (ap number (body_refused version n s _ refl (eqb-false _ _ t))) ∙ e))
+    pick false t ih = absurd (eqb-false _ _ t (sym (ap number (body_refused version n s _ (refused (read_stop version s) _ refl (eqb-false _ _ t)))) ∙ e))
 
 -- where nothing after the head is refused, the stops are those at their places
 pub record StopsInPlace (version n : ℕ) (bytes : List ℕ) : Type 0 where

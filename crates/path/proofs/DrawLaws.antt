@@ -10,8 +10,8 @@ use lib.ListN.{length, take, drop, get_or, length-append, get_or-append}
 use borrow.Author.Count.{below_more}
 use lib.Seq.{drop-drop}
 use borrow.Author.Tests.{lt-ltb, le-ltb}
-use Rattle.base.specs.Outcome.{gives, refuses, and_then, giving, number}
-use Rattle.base.proofs.Outcome.{refused}
+use Rattle.base.specs.Outcome.{Outcome, gives, refuses, and_then, giving, done, number}
+use Rattle.base.proofs.Outcome.{refused, number-giving}
 use Rattle.records.specs.Record.{record_length}
 use Rattle.records.proofs.RecordLaws.{by-taken}
 use Rattle.stop.specs.declared.Stop.{Stop}
@@ -55,6 +55,9 @@ goods-none version n s =
 abbrev pub Reached : (version : ℕ) (bytes : List ℕ) (i : ℕ) → Type 0
 Reached version bytes i = (j : ℕ) → j < i → number (read_stop version (drop (stop_place version j) bytes)) ≡ 0
 
+number-done : (a b : Outcome (List Stop)) → done a ≡ done b → number a ≡ number b
+number-done a b e = sym (number-giving (λ ss. tt) a) ∙ ap number e ∙ number-giving (λ ss. tt) b
+
 record Split (version n : ℕ) (bytes : List ℕ) (i : ℕ) : Type 0 where
   pub goods : good_stops version n (drop 8 bytes) ≡ stops_in version i bytes ++ good_stops version (n - i) (drop (stop_place version i) bytes)
   pub number : number (read_body version n (drop 8 bytes)) ≡ number (read_body version (n - i) (drop (stop_place version i) bytes))
@@ -75,7 +78,7 @@ split version n bytes (suc i) h r =
     ∙ append_assoc (stops_in version i bytes) (stop_in version i bytes ∷ []) (good_stops version (n - suc i) (drop (stop_place version (suc i)) bytes)) in
     record {
       goods = before.goods ∙ rw one (ap (λ (l : List Stop). stops_in version i bytes ++ l) more ∙ sym grown);
-      number = before.number ∙ rw one (place_after version (n - suc i) i bytes this);
+      number = before.number ∙ rw one (number-done _ _ (place_after version (n - suc i) i bytes this));
     }
 
 -- ---- each draw
@@ -136,7 +139,7 @@ module _ (bytes : List ℕ) (highest version k : ℕ) (e : read_head bytes highe
       let long : length (stops_in version i bytes) ≡ i = length-tabulate i f in
       let past : length (stops_in version i bytes) ≤ d = omega arith in
       let whole : number (read_body version (2 ^ k) (drop 8 bytes)) ≡ number (read_stop version (drop (stop_place version i) bytes)) =
-      s.number ∙ rw one (ap number (body_refused version (2 ^ k - suc i) (drop (stop_place version i) bytes) _ refl bad)) in
+      s.number ∙ rw one (ap number (body_refused version (2 ^ k - suc i) (drop (stop_place version i) bytes) _ (refused (read_stop version (drop (stop_place version i) bytes)) _ refl bad))) in
       draw-is d ∙ rw (goods, le-ltb _ _ past) (last-is ∙ rw whole (last-refused _ bad))
 
   -- after the last stop every draw is the end, or the refusal of the end

@@ -1,6 +1,6 @@
 -- Laws of a path's head: which test decides, and what an accepted head is.
 use mathlib.Core.Path.{◌≡◌, refl, ap, ◌∙◌}
-use mathlib.Core.Bool.{Bool, true, false, ◌&&◌}
+use mathlib.Core.Bool.{Bool, true, false, ◌&&◌, and-true, and-false}
 use mathlib.Core.List.{List}
 use Prim.Native.Nat.{ℕ, ◌+◌, ◌-◌, ◌≤◌, ◌<◌}
 use native.Mathlib.Omega.{arith}
@@ -9,13 +9,14 @@ use lib.ListN.{length, take, drop}
 use lib.Seq.{drop-drop, take-take}
 use borrow.Author.Tests.{le-leb, lt-leb, leb-true}
 use Rattle.base.specs.Outcome.{Outcome, gives, refuses, need, and_then, number}
-use Rattle.base.proofs.Outcome.{refused}
+use Rattle.base.proofs.Outcome.{gives-not-refuses}
 use Rattle.records.specs.Field.{number_of}
 use Rattle.records.specs.Record.{Taken, record_length, take_record}
 use Rattle.records.proofs.LengthLaws.{path-length}
 use Rattle.records.proofs.RecordLaws.{by-taken, number-good, Whole}
 use Rattle.path.specs.Path.{PathHead, path_head, read_head, head_of, head_fields, known_version}
-use Rattle.path.specs.Reading.{head_given}
+use Rattle.path.specs.Local.{judge_form}
+use Rattle.path.proofs.FormLaws.{form-refused}
 use Rattle.path.proofs.PlaceLaws.{window}
 
 module _ (bytes : List ℕ) (highest : ℕ) where
@@ -23,9 +24,9 @@ module _ (bytes : List ℕ) (highest : ℕ) where
   unfolding read_head
   head-unknown e = rw e
 
-  pub head-refused : known_version highest ≡ true → (n : ℕ) → n ≡ number (take_record 1 (record_length 1 highest 0) bytes) → (n ≡ 0 → ⊥) → read_head bytes highest ≡ refuses n
+  pub head-refused : known_version highest ≡ true → (n : ℕ) → take_record 1 (record_length 1 highest 0) bytes ≡ refuses n → read_head bytes highest ≡ refuses n
   unfolding read_head
-  head-refused e n r f = rw e (ap (λ (t : Outcome Taken). and_then t (head_of highest)) (refused (take_record 1 (record_length 1 highest 0) bytes) n r f))
+  head-refused e n r = rw (e, r)
 
   -- the fields of a head whose record is whole
   pub head-fields : known_version highest ≡ true → number (take_record 1 (record_length 1 highest 0) bytes) ≡ 0 → read_head bytes highest ≡ head_fields highest (number_of (take 2 (drop 4 bytes))) (number_of (take 2 (drop 6 bytes))) (drop 8 bytes)
@@ -36,17 +37,13 @@ module _ (bytes : List ℕ) (highest : ℕ) where
       ∙ rw (path-length, take-take 2 4 (drop 4 bytes) (omega arith), window 2 2 4 (drop 4 bytes) (omega arith), drop-drop 2 4 bytes))
 
 module _ (highest version k : ℕ) (rest : List ℕ) where
-  pub fields-unknown : known_version version ≡ false → head_fields highest version k rest ≡ refuses 4
+  pub fields-above : highest < version → head_fields highest version k rest ≡ refuses 4
   unfolding head_fields
-  fields-unknown e = rw e
+  fields-above h = rw (lt-leb _ _ h, and-false)
 
-  pub fields-above : known_version version ≡ true → highest < version → head_fields highest version k rest ≡ refuses 4
+  pub fields-unformed : version ≤ highest → (n : ℕ) → refuses n ≡ judge_form version k → head_fields highest version k rest ≡ refuses n
   unfolding head_fields
-  fields-above e h = rw (e, lt-leb _ _ h)
-
-  pub fields-large : known_version version ≡ true → version ≤ highest → 10 < k → head_fields highest version k rest ≡ refuses 5
-  unfolding head_fields
-  fields-large e h l = rw (e, le-leb _ _ h, lt-leb _ _ l)
+  fields-unformed h n e = rw (le-leb _ _ h, and-true) (form-refused version k n (gives (path_head version k rest)) e)
 
   pub fields-good : known_version version ≡ true → version ≤ highest → k ≤ 10 → head_fields highest version k rest ≡ gives (path_head version k rest)
   unfolding head_fields
@@ -84,7 +81,18 @@ head-seen bytes highest = by-highest (known_version highest)
     by-highest true = by-taken 1 (record_length 1 highest 0) bytes (λ t. Seen bytes highest (and_then t (head_of highest))) whole-head (λ n f. bad-head n f)
     by-highest false = bad-head 4 (λ z. omega arith)
 
--- the answer for a head tells it whole
-pub answer-good : (bytes : List ℕ) (highest : ℕ) (h : Outcome PathHead) → Seen bytes highest h → (head_given h).refused ≡ 0 → h ≡ gives (path_head (head_given h).version (head_given h).k (drop 8 bytes))
-answer-good bytes highest h (good-head version k p q r s) e = refl
-answer-good bytes highest h (bad-head n f) e = absurd (f e)
+-- what the bytes tell that a head was accepted of
+pub record Opened (bytes : List ℕ) (highest version k : ℕ) : Type 0 where
+  pub known : known_version version ≡ true
+  pub below : version ≤ highest
+  pub small : k ≤ 10
+  pub head : read_head bytes highest ≡ gives (path_head version k (drop 8 bytes))
+
+pub head-opened : (bytes : List ℕ) (highest : ℕ) (h : PathHead) → gives h ≡ read_head bytes highest → Opened bytes highest h.version h.k
+head-opened bytes highest h e = by (read_head bytes highest) (head-seen bytes highest) refl e
+  where
+    by : (o : Outcome PathHead) → Seen bytes highest o → read_head bytes highest ≡ o → gives h ≡ o → Opened bytes highest h.version h.k
+    by o (good-head version k known below small long) r g =
+        let same : h ≡ path_head version k (drop 8 bytes) = cc in
+        rw same (record { known = known; below = below; small = small; head = r })
+    by o (bad-head n f) r g = absurd (gives-not-refuses h n g)

@@ -7,14 +7,18 @@ use lib.Dec.{leb}
 use mathlib.Core.Bool.{true}
 use lib.ListN.{length, drop}
 use borrow.Author.Tests.{le-leb, leb-true}
-use Rattle.base.specs.Outcome.{Outcome, gives, refuses, and_then, giving, number}
-use Rattle.base.proofs.Outcome.{refused, passed, number-giving, number-first}
+use Rattle.base.specs.Outcome.{Outcome, gives, refuses, and_then, giving, done, number}
+use Rattle.base.proofs.Outcome.{refused, passed, number-giving, gives-not-refuses, done-good, done-refused}
 use Rattle.stop.specs.Lent.{all_in_range}
-use Rattle.path.specs.declared.Head.{Head}
-use Rattle.path.specs.Path.{PathHead, path_head, path, read_head, read_on, read_path, read_body, body_after_head, known_version, stops_in, stop_place}
-use Rattle.path.specs.Reading.{head_given, path_given}
+use Rattle.path.specs.declared.Heading.{Heading}
+use Rattle.path.specs.declared.PathBytes.{PathBytes}
+use Rattle.path.specs.Bytes.{opened, heading_of}
+use Rattle.path.specs.Path.{PathHead, path_head, Path, path, read_head, read_on, read_path, read_body, body_after_head, known_version, stops_in, stop_place}
+use Rattle.path.specs.Local.{judge_form}
+use Rattle.path.specs.Reading.{heading}
 use Rattle.path.proofs.BodyLaws.{body-in}
-use Rattle.path.proofs.HeadLaws.{Seen, good-head, bad-head, head-seen, answer-good}
+use Rattle.path.proofs.FormLaws.{form-refused}
+use Rattle.path.proofs.HeadLaws.{Seen, good-head, bad-head, head-seen, Opened, head-opened}
 
 -- ---- a path is read head first
 
@@ -50,37 +54,10 @@ pub after-head : (bytes : List ℕ) (version k : ℕ) → known_version version 
 unfolding body_after_head
 after-head bytes version k known small = rw (known, le-leb k 10 small)
 
-module _ (bytes : List ℕ) (highest : ℕ) (test : ℕ → Outcome Unit) (h : Head) (judged : h ≡ head_given (read_head bytes highest)) where
-  -- a refused head
-  pub judged-head : (h.refused ≡ 0 → ⊥) → read_path bytes highest test ≡ refuses h.refused
-  judged-head f =
-      path-refused bytes highest test h.refused (refused (read_head bytes highest) h.refused (ap (λ (x : Head). x.refused) judged) f)
-
-  module _ (good : h.refused ≡ 0) where
-    -- an accepted one is followed by the body at byte 8
-    pub opened-by : read_head bytes highest ≡ gives (path_head h.version h.k (drop 8 bytes))
-    opened-by =
-        rw judged
-        (answer-good bytes highest (read_head bytes highest) (head-seen bytes highest) (sym (ap (λ (x : Head). x.refused) judged) ∙ good))
-
-    -- its version and k are good
-    pub head-facts : (known_version h.version ≡ true) × (h.version ≤ highest) × (h.k ≤ 10)
-    head-facts = rw judged (facts (read_head bytes highest) (head-seen bytes highest) (sym (ap (λ (x : Head). x.refused) judged) ∙ good))
-      where
-        facts : (o : Outcome PathHead) → Seen bytes highest o → (head_given o).refused ≡ 0 → (known_version (head_given o).version ≡ true) × ((head_given o).version ≤ highest) × ((head_given o).k ≤ 10)
-        facts o (good-head version k p q r s) e = (p, q, r)
-        facts o (bad-head n f) e = absurd (f e)
-
-    pub judged-after : body_after_head bytes h.version h.k ≡ read_body h.version (2 ^ h.k) (drop 8 bytes)
-    judged-after = after-head bytes h.version h.k head-facts.0 head-facts.2
-
-    -- the caller's own test of k comes next
-    pub judged-test : (n : ℕ) → test h.k ≡ refuses n → read_path bytes highest test ≡ refuses n
-    judged-test n f = path-untaken bytes highest test h.version h.k (drop 8 bytes) opened-by n f
-
-    -- and then the body
-    pub judged-rest : test h.k ≡ gives tt → read_path bytes highest test ≡ giving (path h.version h.k) (body_after_head bytes h.version h.k)
-    judged-rest fits = rw judged-after (path-body bytes highest test h.version h.k (drop 8 bytes) opened-by fits)
+-- a version or a k that is refused
+pub body-unformed : (bytes : List ℕ) (version k n : ℕ) → refuses n ≡ judge_form version k → body_after_head bytes version k ≡ refuses n
+unfolding body_after_head
+body-unformed bytes version k n e = form-refused version k n (read_body version (2 ^ k) (drop 8 bytes)) e
 
 -- ---- a body that was judged
 
@@ -104,38 +81,15 @@ body-good bytes version k e =
     let b = body-in version (2 ^ k) bytes second.goes_on in
     record { known = first.holds; small = leb-true _ _ second.holds; stops = first.same ∙ second.same ∙ b.stops; size = b.size; range = b.range }
 
--- ---- what such a caller returns
+-- the same of a call that judged it
+pub body-done : (bytes : List ℕ) (version k : ℕ) → gives tt ≡ done (body_after_head bytes version k) → JudgedBody bytes version k
+body-done bytes version k e = body-good bytes version k (done-good (body_after_head bytes version k) e)
 
-module _ (bytes : List ℕ) (highest : ℕ) (test : ℕ → Outcome Unit) (h : Head) (judged : h ≡ head_given (read_head bytes highest)) where
-  -- a refused head as it is
-  pub given-head : (h.refused ≡ 0 → ⊥) → h ≡ path_given (read_path bytes highest test)
-  given-head f =
-      judged
-      ∙ ap head_given (refused (read_head bytes highest) h.refused (ap (λ (x : Head). x.refused) judged) f)
-      ∙ ap path_given (sym (judged-head bytes highest test h judged f))
+-- ---- what such a caller answers
 
-  module _ (good : h.refused ≡ 0) where
-    -- the number of the caller's own test
-    pub given-test : (n : ℕ) (r : Head) → test h.k ≡ refuses n → r ≡ head_given (refuses n) → r ≡ path_given (read_path bytes highest test)
-    given-test n r f e = e ∙ ap path_given (sym (judged-test bytes highest test h judged good n f))
-
-    module _ (fits : test h.k ≡ gives tt) (n : ℕ) (body : n ≡ number (body_after_head bytes h.version h.k)) where
-      rest : read_path bytes highest test ≡ giving (path h.version h.k) (body_after_head bytes h.version h.k)
-      rest = judged-rest bytes highest test h judged good fits
-
-      -- the number of the body
-      pub given-body : (r : Head) → (n ≡ 0 → ⊥) → r ≡ head_given (refuses n) → r ≡ path_given (read_path bytes highest test)
-      given-body r f e =
-          let refusal : read_path bytes highest test ≡ refuses n = rw (rest, body-bad bytes h.version h.k n body f) in
-          e ∙ ap path_given (sym refusal)
-
-      -- the head as it is, where nothing is refused
-      pub given-path : n ≡ 0 → h ≡ path_given (read_path bytes highest test)
-      given-path z =
-          let reads : read_path bytes highest test ≡ gives (path h.version h.k (stops_in h.version (2 ^ h.k) bytes)) = rw (rest, (body-good bytes h.version h.k (sym body ∙ z)).stops) in
-          judged ∙ ap head_given (opened-by bytes highest test h judged good) ∙ ap path_given (sym reads)
-
--- ---- what is returned tells the path
+-- a refused head
+pub judged-head : (bytes : List ℕ) (highest : ℕ) (test : ℕ → Outcome Unit) (n : ℕ) → refuses n ≡ read_head bytes highest → read_path bytes highest test ≡ refuses n
+judged-head bytes highest test n e = path-refused bytes highest test n (sym e)
 
 -- an accepted path is that of the stops at their places
 pub record JudgedPath (bytes : List ℕ) (highest : ℕ) (test : ℕ → Outcome Unit) (version k : ℕ) : Type 0 where
@@ -143,7 +97,35 @@ pub record JudgedPath (bytes : List ℕ) (highest : ℕ) (test : ℕ → Outcome
   pub body : JudgedBody bytes version k
   pub takes : test k ≡ gives tt
 
-module _ (bytes : List ℕ) (highest : ℕ) (test : ℕ → Outcome Unit) (sound : (k : ℕ) → number (test k) ≡ 0 → test k ≡ gives tt) where
+-- the bytes of an accepted head, which are those that were judged
+module _ (bytes : List ℕ) (highest : ℕ) (test : ℕ → Outcome Unit) (p : PathBytes) (head : gives (opened p) ≡ read_head bytes highest) (same : p.bytes.now ≡ bytes) where
+  -- their version and k are good, and the body follows at byte 8
+  pub head-facts : Opened bytes highest p.version p.k
+  head-facts = head-opened bytes highest (opened p) head
+
+  pub judged-after : body_after_head bytes p.version p.k ≡ read_body p.version (2 ^ p.k) (drop 8 bytes)
+  judged-after = after-head bytes p.version p.k head-facts.known head-facts.small
+
+  -- the caller's own test of k comes next
+  pub judged-test : (n : ℕ) → test p.k ≡ refuses n → read_path bytes highest test ≡ refuses n
+  judged-test n f = path-untaken bytes highest test p.version p.k (drop 8 bytes) head-facts.head n f
+
+  -- and then the body
+  module _ (fits : test p.k ≡ gives tt) where
+    pub judged-rest : read_path bytes highest test ≡ giving (path p.version p.k) (body_after_head bytes p.version p.k)
+    judged-rest = rw judged-after (path-body bytes highest test p.version p.k (drop 8 bytes) head-facts.head fits)
+
+    pub judged-body : (n : ℕ) → refuses n ≡ done (body_after_head p.bytes.now p.version p.k) → read_path bytes highest test ≡ refuses n
+    judged-body n e = rw (judged-rest, done-refused (body_after_head bytes p.version p.k) n (rw same at e))
+
+    pub judged-path : gives tt ≡ done (body_after_head p.bytes.now p.version p.k) → JudgedPath bytes highest test p.version p.k
+    judged-path e =
+        let b = body-done bytes p.version p.k (rw same at e) in
+        record { reads = rw (judged-rest, b.stops); body = b; takes = fits }
+
+-- ---- what is returned tells the path
+
+module _ (bytes : List ℕ) (highest : ℕ) (test : ℕ → Outcome Unit) where
   by-body : (version k : ℕ) → read_head bytes highest ≡ gives (path_head version k (drop 8 bytes)) → known_version version ≡ true → k ≤ 10 → test k ≡ gives tt → number (read_path bytes highest test) ≡ 0 → JudgedPath bytes highest test version k
   by-body version k e known small takes z =
       let whole : read_path bytes highest test ≡ giving (path version k) (body_after_head bytes version k) = rw (after-head bytes version k known small) (path-body bytes highest test version k (drop 8 bytes) e takes) in
@@ -151,13 +133,33 @@ module _ (bytes : List ℕ) (highest : ℕ) (test : ℕ → Outcome Unit) (sound
       let body = body-good bytes version k judged in
       record { reads = rw (whole, body.stops); body = body; takes = takes }
 
-  by-head : (o : Outcome PathHead) → Seen bytes highest o → read_head bytes highest ≡ o → number (read_path bytes highest test) ≡ 0 → JudgedPath bytes highest test (path_given (read_path bytes highest test)).version (path_given (read_path bytes highest test)).k
-  by-head o (good-head version k known below small long) e z =
-      let takes : test k ≡ gives tt = sound k (number-first (test k) (λ passed. giving (path version k) (read_body version (2 ^ k) (drop 8 bytes))) (sym (ap number (path-on bytes highest test version k (drop 8 bytes) e)) ∙ z)) in
-      let judged = by-body version k e known small takes z in
-      rw judged.reads judged
-  by-head o (bad-head n f) e z = absurd (f (sym (ap number (path-refused bytes highest test n e)) ∙ z))
+  by-test : (version k : ℕ) → read_head bytes highest ≡ gives (path_head version k (drop 8 bytes)) → known_version version ≡ true → k ≤ 10 → (t : Outcome Unit) → test k ≡ t → (q : Path) → read_path bytes highest test ≡ gives q → JudgedPath bytes highest test q.version q.k
+  by-test version k e known small (gives u) takes q r =
+      let judged = by-body version k e known small takes (ap number r) in
+      let same : q ≡ path version k (stops_in version (2 ^ k) bytes) = gives-same (sym r ∙ judged.reads) in
+      rw same judged
+    where
+      gives-same : {a b : Path} → gives a ≡ gives b → a ≡ b
+      gives-same g = cc
+  by-test version k e known small (refuses n) refused q r =
+      absurd (gives-not-refuses q n (sym r ∙ path-untaken bytes highest test version k (drop 8 bytes) e n refused))
 
-  -- a path whose number is 0
-  pub path-good : (h : Head) → h ≡ path_given (read_path bytes highest test) → h.refused ≡ 0 → JudgedPath bytes highest test h.version h.k
-  path-good h e z = rw e (by-head (read_head bytes highest) (head-seen bytes highest) refl (sym (ap (λ (x : Head). x.refused) e) ∙ z))
+  -- a path that is given
+  path-given : (q : Path) → read_path bytes highest test ≡ gives q → JudgedPath bytes highest test q.version q.k
+  path-given q r = by (read_head bytes highest) (head-seen bytes highest) refl
+    where
+      by : (o : Outcome PathHead) → Seen bytes highest o → read_head bytes highest ≡ o → JudgedPath bytes highest test q.version q.k
+      by o (good-head version k known below small long) e = by-test version k e known small (test k) refl q r
+      by o (bad-head n f) e = absurd (gives-not-refuses q n (sym r ∙ path-refused bytes highest test n e))
+
+  -- a path whose version and k are given
+  pub path-good : (p : PathBytes) → gives (heading_of p) ≡ giving heading (read_path bytes highest test) → JudgedPath bytes highest test p.version p.k
+  path-good p e = by (read_path bytes highest test) refl e
+    where
+      by : (o : Outcome Path) → read_path bytes highest test ≡ o → gives (heading_of p) ≡ giving heading o → JudgedPath bytes highest test p.version p.k
+      by (gives q) r g =
+          let same : heading_of p ≡ heading q = cc in
+          let version : p.version ≡ q.version = ap (λ (h : Heading). h.version) same in
+          let k : p.k ≡ q.k = ap (λ (h : Heading). h.k) same in
+          rw (version, k) (path-given q r)
+      by (refuses n) r g = absurd (gives-not-refuses (heading_of p) n g)

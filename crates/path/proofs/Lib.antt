@@ -2,6 +2,7 @@
 pub mod BodyLaws
 pub mod DrawLaws
 pub mod FillLaws
+pub mod FormLaws
 pub mod HeadLaws
 pub mod Inverse
 pub mod JudgeLaws

@@ -9,11 +9,11 @@ use lib.ListN.{length, take, drop, length-drop}
 use lib.Seq.{take-take, drop-drop}
 use lib.Dec.{eqb}
 use borrow.Author.Tests.{le-leb, ne_eqb, eqb-true, eqb-false}
-use Rattle.base.specs.Outcome.{Outcome, refuses, and_then, giving, number}
-use Rattle.base.proofs.Outcome.{refused, number-first}
+use Rattle.base.specs.Outcome.{Outcome, gives, refuses, and_then, giving, number}
+use Rattle.base.proofs.Outcome.{number-first}
 use Rattle.records.specs.Field.{number_of, signed}
 use Rattle.base.proofs.Bools.{and_right}
-use Rattle.records.specs.Record.{record_length, take_record, is_kind, is_due, kind_said, length_said, later_fields, blend_since, dwell_since}
+use Rattle.records.specs.Record.{Taken, record_length, take_record, is_kind, is_due, kind_said, length_said, later_fields, blend_since, dwell_since}
 use Rattle.records.proofs.LengthLaws.{stop-length}
 use Rattle.records.proofs.Versions.{later-blend, later-dwell}
 use Rattle.records.proofs.RecordLaws.{Whole, by-taken, whole, number-good}
@@ -50,9 +50,9 @@ content-stop version s = front-stop version (record_length 2 version 0 - 2) s (o
 -- ---- a stop's record
 
 -- a record's refusal is the stop's
-pub stop-refused : (version n : ℕ) (s : List ℕ) → n ≡ number (take_record 2 (record_length 2 version 0) s) → (n ≡ 0 → ⊥) → read_stop version s ≡ refuses n
+pub stop-refused : (version n : ℕ) (s : List ℕ) → take_record 2 (record_length 2 version 0) s ≡ refuses n → read_stop version s ≡ refuses n
 unfolding read_stop
-stop-refused version n s e f = rw (refused (take_record 2 (record_length 2 version 0) s) n e f)
+stop-refused version n s e = rw e
 
 -- a whole record's stop is judged
 pub stop-judged : (version : ℕ) (s : List ℕ) → number (take_record 2 (record_length 2 version 0) s) ≡ 0 → read_stop version s ≡ judge_stop (stop_of version (drop 4 s))
@@ -106,15 +106,16 @@ stop-good version next s =
     good-one j = rw (judged-good (stop_of version (drop 4 s)) j)
 
 -- a refused one is the refusal of all
-pub stop-bad : (version : ℕ) (next : List ℕ → Outcome (List Stop)) (s : List ℕ) (n : ℕ) → n ≡ number (read_stop version s) → (n ≡ 0 → ⊥) → and_then (take_record 2 (record_length 2 version 0) s) (stop_then version next) ≡ refuses n
+pub stop-bad : (version : ℕ) (next : List ℕ → Outcome (List Stop)) (s : List ℕ) (n : ℕ) → read_stop version s ≡ refuses n → and_then (take_record 2 (record_length 2 version 0) s) (stop_then version next) ≡ refuses n
 unfolding read_stop stop_then
-stop-bad version next s n =
-    by-taken 2 (record_length 2 version 0) s (λ t. n ≡ number (and_then t (λ t. judge_stop (stop_of version t.content))) → (n ≡ 0 → ⊥) → and_then t (stop_then version next) ≡ refuses n)
-    (λ w e f. bad-one (stop_of version (take (record_length 2 version 0 - 2) (drop 4 s))) _ e f)
-    (λ m f e g. ap refuses (sym e))
+stop-bad version next s n = by_record (take_record 2 (record_length 2 version 0) s)
   where
-    bad-one : (st : Stop) (rest : Stop → Outcome (List Stop)) → n ≡ number (judge_stop st) → (n ≡ 0 → ⊥) → and_then (judge_stop st) rest ≡ refuses n
-    bad-one st rest e f = rw (refused (judge_stop st) n e f)
+    by_stop : (o : Outcome Stop) (rest : Stop → Outcome (List Stop)) → o ≡ refuses n → and_then o rest ≡ refuses n
+    by_stop o rest e = rw e
+
+    by_record : (o : Outcome Taken) → and_then o (λ t. judge_stop (stop_of version t.content)) ≡ refuses n → and_then o (λ t. and_then (judge_stop (stop_of version t.content)) (λ s. giving (λ ss. s ∷ ss) (next t.rest))) ≡ refuses n
+    by_record (gives t) e = by_stop (judge_stop (stop_of version t.content)) (λ s. giving (λ ss. s ∷ ss) (next t.rest)) e
+    by_record (refuses m) e = let same : m ≡ n = cc in ap refuses same
 
 -- ---- a stop's record told from everything else at once
 

@@ -1,23 +1,27 @@
 -- Laws of the writing calls: which test decides, and what number 0 tells.
-use mathlib.Core.Path.{◌≡◌, refl, ◌∙◌}
+use Rattle.std.specs.Prelude.{Result, Ok}
+use mathlib.Core.Path.{◌≡◌, refl, sym, ap, ◌∙◌}
 use mathlib.Core.Bool.{Bool, true, false, ◌||◌, not}
 use mathlib.Core.List.{List}
 use Prim.Native.Nat.{ℕ, zero, suc, ◌+◌, ◌^◌, ◌≤◌, ◌<◌}
+use native.Mathlib.Nat.{zero-add, add-zero}
 use native.Mathlib.Omega.{arith}
 use lib.Dec.{leb}
 use lib.ListN.{length, drop}
 use borrow.Author.Tests.{le-leb, lt-leb, leb-true, not-true}
-use Rattle.base.specs.Outcome.{Outcome, gives, refuses, need, number, over}
-use Rattle.base.proofs.Outcome.{passed, refused, number-first}
+use Rattle.base.specs.declared.Refusal.{Refusal}
+use Rattle.base.specs.Outcome.{Outcome, gives, refuses, need, and_then, done, said, number, over}
+use Rattle.base.proofs.Outcome.{passed, number-first, done-good, done-refused}
 use Rattle.base.specs.Lists.{tabulate}
-use Rattle.base.proofs.Lists.{length-tabulate}
+use Rattle.base.proofs.Lists.{length-tabulate, tabulate-cong}
+use Rattle.std.specs.List.{list_any, range_with_len}
 use Rattle.stop.specs.declared.Stop.{Stop}
 use Rattle.stop.specs.Lent.{LentStops, first_stops, judge_lent}
 use Rattle.stop.proofs.Lent.{judged-gives, length-first}
-use Rattle.path.specs.declared.PathWritten.TheVariants.{Wrote, Refused}
 use Rattle.path.specs.Path.{known_version, path_size, body_after_head, stop_place, stop_in, stops_in}
-use Rattle.path.specs.Written.{loses_field, loses_any, path_bytes, write_stops, write_path, rewrite_after_head, said, BytesAreWritten}
-use Rattle.path.specs.Local.{judge_output}
+use Rattle.path.specs.Written.{loses_field, loses_any, path_bytes, write_stops, write_path, rewrite_after_head, BytesAreWritten}
+use Rattle.path.specs.Local.{judge_form}
+use Rattle.path.proofs.FormLaws.{form-refused, form-good}
 use Rattle.path.proofs.JudgeLaws.{JudgedBody, body-good}
 use Rattle.path.proofs.PlaceLaws.{place-within}
 use Rattle.path.proofs.StopFields.{field-kept, newer-field}
@@ -41,6 +45,17 @@ any_some version (suc n) f (suc i) l h = rw (any_some version n (λ j. f (suc j)
     or-true true = refl
     or-true false = refl
 
+-- the same, found by a test of each number from the first to the last
+pub any_of : (version n : ℕ) (f : ℕ → Stop) → list_any (λ i. loses_field version (f i)) (range_with_len 0 n) ≡ loses_any version (tabulate n f)
+unfolding loses_any
+any_of version n f = from 0 n ∙ ap (loses_any version) (tabulate-cong n (λ i. f (0 + i)) f (λ i h. ap f (zero-add i)))
+  where
+    from : (a n : ℕ) → list_any (λ i. loses_field version (f i)) (range_with_len a n) ≡ loses_any version (tabulate n (λ i. f (a + i)))
+    from a zero = refl
+    from a (suc n) =
+        let next : tabulate n (λ i. f (a + 1 + i)) ≡ tabulate n (λ i. f (a + suc i)) = tabulate-cong n (λ i. f (a + 1 + i)) (λ i. f (a + suc i)) (λ i h. ap f (omega arith)) in
+        rw (from (a + 1) n, next, add-zero)
+
 -- stops that were read lose nothing in a version that is no older
 pub none-newer : (version to n : ℕ) (bytes : List ℕ) → version ≤ to → stop_place version n ≤ length bytes → loses_any to (stops_in version n bytes) ≡ false
 none-newer version to n bytes h room =
@@ -49,15 +64,18 @@ none-newer version to n bytes h room =
 
 -- ---- the last two tests, 13 and 8
 
--- by whether a field is lost, and by the size
-pub output-number : (version k room : ℕ) (ss : List Stop) → length ss ≡ 2 ^ k → number (judge_output (loses_any version ss) version k room) ≡ number (write_stops version k room ss)
-unfolding write_stops
-output-number version k room ss e = rw (length-written version k ss e) (pick (not (loses_any version ss)) (leb (path_size version k) room))
-  where
-    pick : (a b : Bool) → number (need {A = Unit} a 13 (need b 8 (gives tt))) ≡ number (need a 13 (need b 8 (gives (path_bytes version k ss))))
-    pick true true = refl
-    pick true false = refl
-    pick false b = refl
+module _ (version k room : ℕ) (ss : List Stop) where
+  pub stops-lost : loses_any version ss ≡ true → write_stops version k room ss ≡ refuses 13
+  unfolding write_stops
+  stops-lost e = rw e
+
+  pub stops-short : length ss ≡ 2 ^ k → loses_any version ss ≡ false → room < path_size version k → write_stops version k room ss ≡ refuses 8
+  unfolding write_stops
+  stops-short many e h = rw (e, length-written version k ss many, lt-leb _ _ h)
+
+  pub stops-fit : length ss ≡ 2 ^ k → loses_any version ss ≡ false → path_size version k ≤ room → write_stops version k room ss ≡ gives (path_bytes version k ss)
+  unfolding write_stops
+  stops-fit many e h = rw (e, length-written version k ss many, le-leb _ _ h)
 
 -- stops that are written: they lose nothing, and there is room
 pub record Written (version k room : ℕ) (ss : List Stop) : Type 0 where
@@ -75,23 +93,22 @@ stops-written version k room ss e z =
 -- ---- from lent stops
 
 module _ (version k : ℕ) (lent : LentStops) (room : ℕ) where
-  pub write-version : known_version version ≡ false → write_path version k lent room ≡ refuses 4
+  pub write-unformed : (n : ℕ) → refuses n ≡ judge_form version k → write_path version k lent room ≡ refuses n
   unfolding write_path
-  write-version e = rw e
+  write-unformed n e = form-refused version k n (and_then (judge_lent (2 ^ k) lent) (write_stops version k room)) e
 
-  module _ (e : known_version version ≡ true) where
-    pub write-k : 10 < k → write_path version k lent room ≡ refuses 5
+  module _ (good : gives tt ≡ judge_form version k) where
+    pub write-refused : (n : ℕ) → refuses n ≡ done (judge_lent (2 ^ k) lent) → write_path version k lent room ≡ refuses n
     unfolding write_path
-    write-k h = rw (e, lt-leb k 10 h)
+    write-refused n e =
+        let f = form-good version k good in
+        rw (f.0, le-leb k 10 f.1, done-refused (judge_lent (2 ^ k) lent) n e)
 
-    module _ (small : k ≤ 10) where
-      pub write-stops : (r : ℕ) → r ≡ number (judge_lent (2 ^ k) lent) → (r ≡ 0 → ⊥) → write_path version k lent room ≡ refuses r
-      unfolding write_path
-      write-stops r n f = rw (e, le-leb k 10 small, refused (judge_lent (2 ^ k) lent) r n f)
-
-      pub write-output : number (judge_lent (2 ^ k) lent) ≡ 0 → write_path version k lent room ≡ write_stops version k room (first_stops (2 ^ k) lent)
-      unfolding write_path
-      write-output z = rw (e, le-leb k 10 small, judged-gives (2 ^ k) lent z)
+    pub write-output : gives tt ≡ done (judge_lent (2 ^ k) lent) → write_path version k lent room ≡ write_stops version k room (first_stops (2 ^ k) lent)
+    unfolding write_path
+    write-output e =
+        let f = form-good version k good in
+        rw (f.0, le-leb k 10 f.1, judged-gives (2 ^ k) lent (done-good (judge_lent (2 ^ k) lent) e))
 
 -- what is known of a writing whose number is 0: k is small enough, the path's size, that there is room, and what is written
 pub record Writable (k size room : ℕ) (o : Outcome (List ℕ)) (bytes : List ℕ) : Type 0 where
@@ -113,18 +130,20 @@ writable version k lent room z =
 -- ---- from path bytes
 
 module _ (bytes : List ℕ) (version k wanted room : ℕ) where
-  pub rewrite-body : (r : ℕ) → r ≡ number (body_after_head bytes version k) → (r ≡ 0 → ⊥) → rewrite_after_head bytes version k wanted room ≡ refuses r
+  pub rewrite-body : (n : ℕ) → refuses n ≡ done (body_after_head bytes version k) → rewrite_after_head bytes version k wanted room ≡ refuses n
   unfolding rewrite_after_head
-  rewrite-body r n f = rw (refused (body_after_head bytes version k) r n f)
+  rewrite-body n e = rw (done-refused (body_after_head bytes version k) n e)
 
-  module _ (z : number (body_after_head bytes version k) ≡ 0) where
-    pub rewrite-version : known_version wanted ≡ false → rewrite_after_head bytes version k wanted room ≡ refuses 4
+  module _ (body : JudgedBody bytes version k) where
+    -- the wanted version is judged with a k that is known to be small
+    pub rewrite-unformed : (n : ℕ) → refuses n ≡ judge_form wanted k → rewrite_after_head bytes version k wanted room ≡ refuses n
     unfolding rewrite_after_head
-    rewrite-version e = rw ((body-good bytes version k z).stops, e)
+    rewrite-unformed n e =
+        rw body.stops (sym (ap (λ (b : Bool). need (known_version wanted) 4 (need b 5 (write_stops wanted k room (stops_in version (2 ^ k) bytes)))) (le-leb k 10 body.small)) ∙ form-refused wanted k n (write_stops wanted k room (stops_in version (2 ^ k) bytes)) e)
 
-    pub rewrite-output : known_version wanted ≡ true → rewrite_after_head bytes version k wanted room ≡ write_stops wanted k room (stops_in version (2 ^ k) bytes)
+    pub rewrite-output : gives tt ≡ judge_form wanted k → rewrite_after_head bytes version k wanted room ≡ write_stops wanted k room (stops_in version (2 ^ k) bytes)
     unfolding rewrite_after_head
-    rewrite-output e = rw ((body-good bytes version k z).stops, e)
+    rewrite-output e = rw (body.stops, (form-good wanted k e).0)
 
   -- a rewriting whose number is 0 found a good body
   pub rewrite-judged : number (rewrite_after_head bytes version k wanted room) ≡ 0 → JudgedBody bytes version k
@@ -143,10 +162,8 @@ module _ (bytes : List ℕ) (version k wanted room : ℕ) where
 
 -- ---- what the calls promise
 
-pub bytes-refused : (o : Outcome (List ℕ)) (before : List ℕ) (n : ℕ) → o ≡ refuses n → BytesAreWritten o before before (Refused n)
-unfolding said
-bytes-refused o before n e = record { said = rw e; left = rw e }
+pub bytes-refused : (o : Outcome (List ℕ)) (before : List ℕ) (r : Result ℕ Refusal) (n : ℕ) → said r ≡ refuses n → o ≡ refuses n → BytesAreWritten o before before r
+bytes-refused o before r n s e = record { said = s ∙ rw e; left = rw e }
 
-pub bytes-done : (o : Outcome (List ℕ)) (bytes before afterwards : List ℕ) (n : ℕ) → o ≡ gives bytes → n ≡ length bytes → afterwards ≡ over bytes before → BytesAreWritten o before afterwards (Wrote n)
-unfolding said
+pub bytes-done : (o : Outcome (List ℕ)) (bytes before afterwards : List ℕ) (n : ℕ) → o ≡ gives bytes → n ≡ length bytes → afterwards ≡ over bytes before → BytesAreWritten o before afterwards (Ok n)
 bytes-done o bytes before afterwards n e s l = record { said = rw (e, s); left = rw e l }

@@ -1,15 +1,16 @@
 -- What bytes a path is written as, and what the writing calls promise.
-use Rattle.std.specs.Prelude.{◌≡◌, Bool, true, false, ◌&&◌, ◌||◌, not, List, [], ◌∷◌, ◌++◌, ℕ, ◌^◌, leb, eqb, ℤ, pos, length, drop, get_or}
+use Rattle.std.specs.Prelude.{◌≡◌, Bool, true, false, ◌&&◌, ◌||◌, not, List, [], ◌∷◌, ◌++◌, ℕ, ◌^◌, leb, eqb, ℤ, pos, length, drop, get_or, Result}
 use Rattle.base.specs.Refusal.{wrong_version, wrong_k, wrong_size, lost_field}
-use Rattle.base.specs.Outcome.{Outcome, gives, refuses, need, and_then, giving, after}
-use Rattle.base.specs.Buffer.{Unsigned, SharedUnsigned, SharedSigned, at_entry, at_exit, contents}
+use Rattle.base.specs.Outcome.{Outcome, gives, need, and_then, giving, said, after}
+use Rattle.base.specs.Buffer.{Unsigned, at_entry, at_exit}
 use Rattle.base.specs.Size.{max_k}
 use Rattle.records.specs.Field.{bytes_of, unsigned, write_fields}
 use Rattle.records.specs.Record.{stop_fields, record_bytes, path_kind, stop_kind, end_kind}
+use Rattle.base.specs.declared.Refusal.{Refusal}
 use Rattle.stop.specs.declared.Stop.{Stop}
-use Rattle.stop.specs.Lent.{LentStops, lent_stops, judge_lent}
-use Rattle.path.specs.declared.PathWritten.{PathWritten}
-use Rattle.path.specs.declared.PathWritten.TheVariants.{Wrote, Refused}
+use Rattle.stop.specs.declared.Stops.{Stops}
+use Rattle.stop.specs.Lent.{LentStops, lent, judge_lent}
+use Rattle.path.specs.declared.PathBytes.{PathBytes}
 use Rattle.path.specs.Path.{known_version, stop_values, body_after_head}
 
 -- a stop's content: the fields of the version
@@ -67,24 +68,19 @@ unfoldable pub rewrite_after_head : (bytes : List ℕ) (version k wanted room : 
 rewrite_after_head bytes version k wanted room =
     and_then (body_after_head bytes version k) (λ ss. need (known_version wanted) wrong_version (write_stops wanted k room ss))
 
--- what an answer says: the count of bytes written
-unfoldable pub said : PathWritten → Outcome ℕ
-said (Wrote n) = gives n
-said (Refused n) = refuses n
-
 -- the promise of a call that writes the bytes of an outcome: the answer, and the output before and after
-pub record BytesAreWritten (o : Outcome (List ℕ)) (before afterwards : List ℕ) (r : PathWritten) : Type 0 where
+pub record BytesAreWritten (o : Outcome (List ℕ)) (before afterwards : List ℕ) (r : Result ℕ Refusal) : Type 0 where
   pub said : said r ≡ giving length o
   pub left : afterwards ≡ after o (λ bytes. bytes) before
 
 -- the same of the parameters of each call
-abbrev pub WritesPath : ℕ → ℕ → SharedSigned → SharedUnsigned → SharedUnsigned → SharedUnsigned → Unsigned → PathWritten → Type 0
-WritesPath version k coords speeds blends dwells out r =
-    BytesAreWritten (write_path version k (lent_stops coords speeds blends dwells) (length (at_entry out))) (at_entry out) (at_exit out) r
+abbrev pub WritesPath : ℕ → ℕ → Stops → Unsigned → Result ℕ Refusal → Type 0
+WritesPath version k stops out r =
+    BytesAreWritten (write_path version k (lent stops) (length (at_entry out))) (at_entry out) (at_exit out) r
 
-abbrev pub RewritesPath : SharedUnsigned → ℕ → ℕ → ℕ → Unsigned → PathWritten → Type 0
-RewritesPath bytes version k wanted out r =
-    BytesAreWritten (rewrite_after_head (contents bytes) version k wanted (length (at_entry out))) (at_entry out) (at_exit out) r
+abbrev pub RewritesPath : PathBytes → ℕ → Unsigned → Result ℕ Refusal → Type 0
+RewritesPath path wanted out r =
+    BytesAreWritten (rewrite_after_head path.bytes.now path.version path.k wanted (length (at_entry out))) (at_entry out) (at_exit out) r
 
 -- ---- the parts of a stop's content, as they are written one after the other
 

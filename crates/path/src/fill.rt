@@ -5,7 +5,7 @@ ghost use Rattle.stop.specs.Lent.{coords_of, speeds_of, blends_of, dwells_of};
 ghost use Rattle.base.specs.Outcome.{over};
 ghost use Rattle.path.specs.Path.{stops_in};
 
-use crate::judge::stop_from;
+use crate::PathBytes;
 use stop::Stop;
 
 // Stores a point as the three coordinates of stop i.
@@ -19,7 +19,8 @@ fn store_point(coords: &mut [i32], i: usize, point: [i32; 3])
     coords[x + 2] = point[2];
 }
 
-// Stores a stop as stop i.
+// Stores a stop as stop i. Four parameters: of a struct of four `&mut` each contract would also have to say, field by field, that it still
+// holds the same reference, which is no plainer.
 fn store_stop(
     coords: &mut [i32],
     speeds: &mut [u16],
@@ -34,8 +35,7 @@ fn store_stop(
     ensures blends_after { blends.new ≡ set blends.old i s.blend }
     ensures dwells_after { dwells.new ≡ set dwells.old i s.dwell }
 {
-    let at = s.at;
-    store_point(coords, i, at);
+    store_point(coords, i, s.at);
     speeds[i] = s.speed;
     blends[i] = s.blend;
     dwells[i] = s.dwell;
@@ -43,8 +43,7 @@ fn store_stop(
 
 // Stores the first `count` stops of path bytes.
 pub fn store_stops(
-    bytes: &[u8],
-    version: u16,
+    path: PathBytes<'_>,
     count: usize,
     coords: &mut [i32],
     speeds: &mut [u16],
@@ -52,19 +51,12 @@ pub fn store_stops(
     dwells: &mut [u16],
 )
     requires { (3 * count ≤ length coords.old) × (count ≤ length speeds.old) × (count ≤ length blends.old) × (count ≤ length dwells.old) }
-    ensures coords_after { coords.new ≡ over (coords_of (stops_in version count bytes.now)) coords.old }
-    ensures speeds_after { speeds.new ≡ over (speeds_of (stops_in version count bytes.now)) speeds.old }
-    ensures blends_after { blends.new ≡ over (blends_of (stops_in version count bytes.now)) blends.old }
-    ensures dwells_after { dwells.new ≡ over (dwells_of (stops_in version count bytes.now)) dwells.old }
+    ensures coords_after { coords.new ≡ over (coords_of (stops_in path.entry.version count path.entry.bytes.now)) coords.old }
+    ensures speeds_after { speeds.new ≡ over (speeds_of (stops_in path.entry.version count path.entry.bytes.now)) speeds.old }
+    ensures blends_after { blends.new ≡ over (blends_of (stops_in path.entry.version count path.entry.bytes.now)) blends.old }
+    ensures dwells_after { dwells.new ≡ over (dwells_of (stops_in path.entry.version count path.entry.bytes.now)) dwells.old }
 {
     for i in 0..count {
-        store_stop(
-            coords,
-            speeds,
-            blends,
-            dwells,
-            i,
-            stop_from(bytes, version, i),
-        );
+        store_stop(coords, speeds, blends, dwells, i, path.stop(i));
     }
 }

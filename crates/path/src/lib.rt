@@ -7,37 +7,30 @@
 
 mod bytes;
 mod fill;
+mod form;
 mod judge;
-mod output;
 mod put;
 mod read;
-mod rewrite;
+mod source;
 mod store;
 mod write;
 
-pub use judge::{HEAD_SIZE, judge_body, judge_end, judge_head, judge_stop, stop_from, stop_size};
+pub use judge::{HEAD_SIZE, judge_head, stop_size};
 pub use read::read_path;
-pub use rewrite::rewrite_path;
-pub use write::write_path;
+pub use source::StopSource;
+pub use write::{rewrite_path, write_path};
 
-// A judged head: `refused` 0, the version and k, or the refusal's number and zeros.
+// A path's bytes, with the version and k that their head gave. Any version and k may stand here: what needs good ones judges them.
 #[derive(Clone, Copy)]
-pub struct Head {
-    pub refused: u16,
+pub struct PathBytes<'a> {
+    pub bytes: &'a [u8],
     pub version: u16,
     pub k: u16,
 }
 
-// What reading a path answers.
-#[derive(Clone, Copy)]
-pub enum PathRead {
-    Read { version: u16, k: u16 },
-    Refused(u16),
-}
-
-// What writing a path answers: the count of bytes written, or the refusal's number.
-#[derive(Clone, Copy)]
-pub enum PathWritten {
-    Wrote(u64),
-    Refused(u16),
+// What a path that was read begins with.
+#[derive(Clone, Copy, Debug, PartialEq, Eq)]
+pub struct Heading {
+    pub version: u16,
+    pub k: u16,
 }

@@ -2,35 +2,30 @@
 ghost use Rattle.std.specs.Prelude.{◌≡◌, [], ◌++◌, ◌+◌, ◌≤◌, length};
 ghost use Rattle.records.specs.Field.{bytes_of};
 ghost use Rattle.records.specs.Put.{put};
+ghost use Rattle.records.specs.Kind.{kind_number};
 ghost use Rattle.records.specs.Record.{record_bytes, record_length, end_kind};
 ghost use Rattle.path.specs.Path.{stop_size};
 ghost use Rattle.path.specs.Written.{point_bytes, pace_bytes, stop_bytes, head_bytes};
 
 use crate::judge::stop_size;
-use records::{
-    BLEND_SINCE, DWELL_SINCE, END, PATH, STOP, put_pair, put_signed, put16, record_length,
-};
+use records::{BLEND_SINCE, DWELL_SINCE, Kind, put_pair, put_signed, put16};
 use stop::Stop;
 
 // Writes the length of a kind and version, and the kind.
-fn put_start(out: &mut [u8], at: usize, kind: u16, version: u16)
-    ensures { out.new ≡ put out.old at (bytes_of 2 (record_length kind version 0) ++ bytes_of 2 kind) }
+fn put_start(out: &mut [u8], at: usize, kind: Kind, version: u16)
+    ensures { out.new ≡ put out.old at (bytes_of 2 (record_length (kind_number kind) version 0) ++ bytes_of 2 (kind_number kind)) }
 {
-    put_pair(out, at, record_length(kind, version) as u16, kind)
+    put_pair(out, at, kind.length(version) as u16, kind.number())
 }
 
 // Writes x, y and z.
 fn put_point(out: &mut [u8], at: usize, point: [i32; 3])
+    requires { at + 12 ≤ length out.old }
     ensures { out.new ≡ put out.old at (point_bytes point) }
 {
-    if out.len() < 12 {
-        return;
-    }
-    if at <= out.len() - 12 {
-        put_signed(out, at, point[0]);
-        put_signed(out, at + 4, point[1]);
-        put_signed(out, at + 8, point[2]);
-    }
+    put_signed(out, at, point[0]);
+    put_signed(out, at + 4, point[1]);
+    put_signed(out, at + 8, point[2]);
 }
 
 // Writes what comes after the point of a stop, where there is room for it: the speed, and of blend and dwell what the version has.
@@ -53,9 +48,8 @@ fn put_record(part: &mut [u8], version: u16, s: Stop)
     requires { length part.old ≡ stop_size version }
     ensures { part.new ≡ stop_bytes version s }
 {
-    let point = s.at;
-    put_start(part, 0, STOP, version);
-    put_point(part, 4, point);
+    put_start(part, 0, Kind::Stop, version);
+    put_point(part, 4, s.at);
     put_pace(part, 16, version, s.speed, s.blend, s.dwell);
 }
 
@@ -70,12 +64,10 @@ pub fn put_stop(out: &mut [u8], at: usize, version: u16, s: Stop)
 
 // Writes the head of a path.
 pub fn put_head(out: &mut [u8], version: u16, k: u16)
+    requires { 8 ≤ length out.old }
     ensures { out.new ≡ put out.old 0 (head_bytes version k) }
 {
-    if out.len() < 8 {
-        return;
-    }
-    put_start(out, 0, PATH, version);
+    put_start(out, 0, Kind::Path, version);
     put_pair(out, 4, version, k)
 }
 
@@ -83,5 +75,5 @@ pub fn put_head(out: &mut [u8], version: u16, k: u16)
 pub fn put_end(out: &mut [u8], at: usize)
     ensures { out.new ≡ put out.old at (record_bytes end_kind []) }
 {
-    put_start(out, at, END, 4)
+    put_start(out, at, Kind::End, 4)
 }

@@ -1,54 +1,27 @@
 // Paths read into lent buffers.
-ghost use Rattle.std.specs.Prelude.{◌≡◌};
-ghost use Rattle.stop.specs.Lent.{lent_stops, stops_fit};
-ghost use Rattle.path.specs.Reading.{path_given, read_into, ReadsPath};
+ghost use Rattle.std.specs.Prelude.{◌≡◌, IfOk};
+ghost use Rattle.base.specs.Outcome.{said, giving};
+ghost use Rattle.stop.specs.Lent.{lent};
+ghost use Rattle.path.specs.Bytes.{heading_of};
+ghost use Rattle.path.specs.Reading.{heading, read_into, ReadsPath};
 
 use crate::fill::store_stops;
-use crate::judge::{judge_body, judge_head, no_head};
-use crate::{Head, PathRead};
-use base::{WRONG_SIZE, stop_count};
+use crate::judge::judge_head;
+use crate::{Heading, PathBytes};
+use base::{Refusal, stop_count};
+use stop::Stops;
 
-// Whether the buffers have places for `count` stops.
-fn stops_fit(count: usize, coords: &[i32], speeds: &[u16], blends: &[u16], dwells: &[u16]) -> bool
-    ensures { result ≡ stops_fit count (lent_stops coords speeds blends dwells) }
+// The path that is to be read into these buffers, or the first refusal.
+fn judge_path<'a>(bytes: &'a [u8], highest: u16, stops: Stops<'_>) -> Result<PathBytes<'a>, Refusal>
+    ensures path { giving heading_of (said result) ≡ giving heading (read_into bytes.now highest (lent stops.entry)) }
+    ensures same { IfOk result (λ p. p.bytes.now ≡ bytes.now) }
 {
-    if coords.len() / 3 < count {
-        return false;
+    let path = judge_head(bytes, highest)?;
+    if !stops.fits(stop_count(path.k)) {
+        return Err(Refusal::WrongSize);
     }
-    if speeds.len() < count {
-        return false;
-    }
-    if blends.len() < count {
-        return false;
-    }
-    count <= dwells.len()
-}
-
-// The version and k of a path that is to be read into these buffers, or the first refusal.
-fn judge_path(
-    bytes: &[u8],
-    highest: u16,
-    coords: &[i32],
-    speeds: &[u16],
-    blends: &[u16],
-    dwells: &[u16],
-) -> Head
-    ensures { result ≡ path_given (read_into bytes.now highest (lent_stops coords speeds blends dwells)) }
-{
-    let head = judge_head(bytes, highest);
-    let version = head.version;
-    let k = head.k;
-    if head.refused != 0 {
-        return head;
-    }
-    if !stops_fit(stop_count(k), coords, speeds, blends, dwells) {
-        return no_head(WRONG_SIZE);
-    }
-    let refused = judge_body(bytes, version, k);
-    if refused != 0 {
-        return no_head(refused);
-    }
-    head
+    path.judge()?;
+    Ok(path)
 }
 
 // Reads a path, for a caller that knows versions up to `highest`, into buffers of at least 3n, n, n and n places. The whole path is judged
@@ -60,24 +33,19 @@ pub fn read_path(
     speeds: &mut [u16],
     blends: &mut [u16],
     dwells: &mut [u16],
-) -> PathRead
+) -> Result<Heading, Refusal>
     ensures { ReadsPath bytes highest coords speeds blends dwells result }
 {
-    let head = judge_path(bytes, highest, coords, speeds, blends, dwells);
-    let refused = head.refused;
-    let version = head.version;
-    let k = head.k;
-    if refused != 0 {
-        return PathRead::Refused(refused);
-    }
-    store_stops(
-        bytes,
-        version,
-        stop_count(k),
+    let stops = Stops {
         coords,
         speeds,
         blends,
         dwells,
-    );
-    PathRead::Read { version, k }
+    };
+    let path = judge_path(bytes, highest, stops)?;
+    store_stops(path, stop_count(path.k), coords, speeds, blends, dwells);
+    Ok(Heading {
+        version: path.version,
+        k: path.k,
+    })
 }

@@ -1,78 +1,63 @@
-// Paths written to a lent output.
-ghost use Rattle.std.specs.Prelude.{◌≡◌};
-ghost use Rattle.base.specs.Outcome.{number};
-ghost use Rattle.stop.specs.Lent.{lent_stops, first_stops};
-ghost use Rattle.path.specs.Written.{loses_any, write_path, WritesPath};
+// Paths written to a lent output: lent stops, or the stops of path bytes in another version.
+ghost use Rattle.std.specs.Prelude.{◌≡◌, ◌^◌, length};
+ghost use Rattle.base.specs.Lists.{tabulate};
+ghost use Rattle.path.specs.Written.{loses_any, write_stops, BytesAreWritten, WritesPath, RewritesPath};
 
-use crate::PathWritten;
-use crate::judge::known_version;
-use crate::output::{judge_output, loses_field, path_size};
+use crate::form::{Form, loses_field};
+use crate::source::Whole;
 use crate::store::store_path;
-use base::{MAX_K, WRONG_K, WRONG_VERSION, stop_count};
-use stop::{judge_stops, stop_at};
+use crate::{PathBytes, StopSource};
+use base::Refusal;
+use stop::Stops;
 
-// Whether a version lacks a field that is not 0 of one of the first `count` stops.
-fn loses_any(
-    version: u16,
-    count: usize,
-    coords: &[i32],
-    speeds: &[u16],
-    blends: &[u16],
-    dwells: &[u16],
-) -> bool
-    ensures { result ≡ loses_any version (first_stops count (lent_stops coords speeds blends dwells)) }
+// Whether a version lacks a field that is not 0 of one of the first `count` stops of a source.
+fn loses_any<S: StopSource>(source: S, count: usize, version: u16) -> bool
+    ensures { result ≡ loses_any version (tabulate count (S.stop_at source)) }
 {
-    for i in 0..count {
-        if loses_field(version, stop_at(coords, speeds, blends, dwells, i)) {
-            return true;
-        }
-    }
-    false
+    (0..count).any(|i| loses_field(version, source.stop(i)))
 }
 
-// 0, or the refusal of writing 2^k lent stops in a version to an output of `room` bytes.
-fn judge_write(
-    version: u16,
-    k: u16,
-    coords: &[i32],
-    speeds: &[u16],
-    blends: &[u16],
-    dwells: &[u16],
-    room: usize,
-) -> u16
-    ensures { result ≡ number (write_path version k (lent_stops coords speeds blends dwells) room) }
+// Writes the first 2^k stops of a source, which are good; `loses` says whether the version lacks a field of theirs that is not 0.
+fn write_stops<S: StopSource>(
+    source: S,
+    form: Form,
+    loses: bool,
+    out: &mut [u8],
+) -> Result<u64, Refusal>
+    requires { loses ≡ loses_any form.version (tabulate (2 ^ form.k) (S.stop_at source)) }
+    ensures { BytesAreWritten (write_stops form.version form.k (length out.old) (tabulate (2 ^ form.k) (S.stop_at source))) out.old out.new result }
 {
-    if !known_version(version) {
-        return WRONG_VERSION;
+    if loses {
+        return Err(Refusal::LostField);
     }
-    if MAX_K < k {
-        return WRONG_K;
+    if out.len() < form.size() {
+        return Err(Refusal::WrongSize);
     }
-    let count = stop_count(k);
-    let refused = judge_stops(count, coords, speeds, blends, dwells);
-    if refused != 0 {
-        return refused;
-    }
-    let loses = loses_any(version, count, coords, speeds, blends, dwells);
-    judge_output(loses, version, k, room)
+    store_path(source, form, out);
+    Ok(form.size() as u64)
 }
 
 // Writes 2^k lent stops as a path of a version. Everything is judged before the first byte is written.
-pub fn write_path(
-    version: u16,
-    k: u16,
-    coords: &[i32],
-    speeds: &[u16],
-    blends: &[u16],
-    dwells: &[u16],
-    out: &mut [u8],
-) -> PathWritten
-    ensures { WritesPath version k coords speeds blends dwells out result }
+pub fn write_path(version: u16, k: u16, stops: Stops<'_>, out: &mut [u8]) -> Result<u64, Refusal>
+    ensures { WritesPath version k stops.entry out result }
 {
-    let refused = judge_write(version, k, coords, speeds, blends, dwells, out.len());
-    if refused != 0 {
-        return PathWritten::Refused(refused);
-    }
-    store_path(version, k, coords, speeds, blends, dwells, out);
-    PathWritten::Wrote(path_size(version, k) as u64)
+    let form = Form::new(version, k)?;
+    stops.judge(form.count())?;
+    let loses = loses_any(stops, form.count(), version);
+    write_stops(stops, form, loses, out)
+}
+
+// Writes path bytes in the version `wanted`. Everything is judged before the first byte is written.
+pub fn rewrite_path(path: PathBytes<'_>, wanted: u16, out: &mut [u8]) -> Result<u64, Refusal>
+    ensures { RewritesPath path.entry wanted out result }
+{
+    path.judge()?;
+    let form = Form::new(wanted, path.k)?;
+    let whole = Whole {
+        path,
+        count: form.count(),
+    };
+    // A version that is no older lacks nothing.
+    let loses = wanted < path.version && loses_any(whole, form.count(), wanted);
+    write_stops(whole, form, loses, out)
 }

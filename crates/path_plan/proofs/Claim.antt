@@ -5,20 +5,20 @@ use Prim.Native.Nat.{ℕ, ◌^◌, ◌<◌}
 use native.Mathlib.Omega.{arith}
 use lib.ListN.{length, take}
 use lib.Seq.{take_at}
+use Rattle.std.specs.Prelude.{Ok}
 use Rattle.base.specs.Outcome.{Outcome, gives, refuses, giving, left, over}
 use Rattle.stop.specs.declared.Stop.{Stop}
 use Rattle.stop.specs.Lent.{LentStops, first_stops, over_stops}
 use Rattle.stop.proofs.Lent.{over_first}
-use Rattle.path.specs.declared.PathRead.TheVariants.{Read}
 use Rattle.path.specs.Path.{Path, path, any_size}
-use Rattle.path.specs.Reading.{Heading, heading, read_into, stop_room, said, PathIsRead}
+use Rattle.path.specs.declared.Heading.{Heading}
+use Rattle.path.specs.Reading.{heading, read_into, stop_room, PathIsRead}
 use Rattle.times.specs.Table.{entry_of, table_of}
 use Rattle.times.proofs.Table.{get_or-table, accepted, square-table, when-made, made-when}
 use Rattle.tree.specs.Total.{entry, total}
 use Rattle.tree.specs.Open.{wanted, Shortest}
 use Rattle.tree.proofs.Diagonal.{shortest-same, wanted-same}
 use Rattle.tree.proofs.Open.{wanted-shortest, length-wanted}
-use Rattle.planner.specs.declared.Planned.TheVariants.{Done}
 use Rattle.planner.specs.Plan.{plan_order, OrderIsPlanned}
 use Rattle.planner.proofs.Judged.{when-planned, total-said}
 use Rattle.path_plan.specs.Claim.{ShortestFor}
@@ -32,8 +32,7 @@ pub record StopsLeft (bytes : List ℕ) (highest version k : ℕ) (lent lent' : 
   pub means : read_into bytes highest lent ≡ gives (path version k stops)
   pub holds : lent' ≡ over_stops stops lent
 
-pub reading-left : (bytes : List ℕ) (highest version k : ℕ) (lent lent' : LentStops) → PathIsRead bytes highest lent lent' (Read version k) → StopsLeft bytes highest version k lent lent'
-unfolding said
+pub reading-left : (bytes : List ℕ) (highest version k : ℕ) (lent lent' : LentStops) → PathIsRead bytes highest lent lent' (Ok (record { version = version; k = k })) → StopsLeft bytes highest version k lent lent'
 reading-left bytes highest version k lent lent' p = by (read_into bytes highest lent) refl p.said p.left
   where
     by : (o : Outcome Path) → read_into bytes highest lent ≡ o → gives (record { version = version; k = k }) ≡ giving heading o → lent' ≡ left o (λ p. over_stops p.stops lent) lent → StopsLeft bytes highest version k lent lent'
@@ -64,7 +63,7 @@ table-total k ss e =
     ∙ ap (total (entry_of ss)) (table-wanted k ss e)
 
 -- an accepting planner leaves the wanted order by its table first, and answers its total
-plans-shortest : (k : ℕ) (table order totals pivots order' totals' pivots' : List ℕ) (c d : ℕ) → OrderIsPlanned k (plan_order k table (length order) (length totals) (length pivots)) order totals pivots order' totals' pivots' (Done c d)
+plans-shortest : (k : ℕ) (table order totals pivots order' totals' pivots' : List ℕ) (c d : ℕ) → OrderIsPlanned k (plan_order k table (length order) (length totals) (length pivots)) order totals pivots order' totals' pivots' (Ok (record { total = c; weighings = d }))
     → Shortest k (entry (2 ^ k) table) (take (2 ^ k) order') c
 plans-shortest k table order totals pivots order' totals' pivots' c d p =
     let t : ℕ → ℕ → ℕ = entry (2 ^ k) table in

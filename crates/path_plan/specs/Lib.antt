@@ -2,4 +2,3 @@
 pub mod Claim
 pub mod Calls
 pub mod PathPlan
-pub mod Local

@@ -11,7 +11,5 @@ fn main() {
     let mut input = [0u8; ENOUGH_INPUT];
     let count = io::read_full(0, &mut input);
     let output = plan_output::output_for(&input[..count]);
-    let bytes = output.bytes;
-    let size = output.count;
-    io::write_all(1, &bytes[..size]);
+    io::write_all(1, output.as_bytes());
 }

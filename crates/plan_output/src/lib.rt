@@ -4,13 +4,12 @@
 
 #![tactic(auto)]
 
-ghost use Rattle.std.specs.Prelude.{◌≡◌, ◌≤◌, length};
-ghost use Rattle.records.specs.Put.{put};
-ghost use Rattle.plan_output.specs.Output.{refused_bytes, IsOutput};
+ghost use Rattle.std.specs.Prelude.{◌≤◌};
+ghost use Rattle.plan_output.specs.Output.{longest_file, IsOutput};
 
+use base::Refusal;
 use jobs::plan_file;
-use order_file::FileWritten;
-use records::{REFUSED, put_pair, put16, record_length};
+use records::{Kind, put_pair, put16};
 
 // The highest version that the program knows.
 pub const HIGHEST: u16 = 6;
@@ -24,20 +23,45 @@ pub const ENOUGH_INPUT: usize = 1_421;
 // The bytes of a kind 7 record.
 const REFUSED_SIZE: usize = 6;
 
-// The first `count` bytes are the output.
+// The first `count` bytes are the output; the others are 0. The program has no heap, so the output is an array and not a `Vec`.
 #[derive(Clone, Copy)]
 pub struct Output {
     pub bytes: [u8; LONGEST_FILE],
     pub count: usize,
+    ghost within: { count ≤ longest_file },
 }
 
-// Writes the kind 7 record of a refusal.
-fn put_refused(out: &mut [u8], number: u16)
-    requires { 6 ≤ length out.old }
-    ensures { out.new ≡ put out.old 0 (refused_bytes number) }
-{
-    put_pair(out, 0, record_length(REFUSED, HIGHEST) as u16, REFUSED);
-    put16(out, 4, number);
+impl Output {
+    ghost use Rattle.std.specs.Prelude.{◌≡◌, length, take};
+    ghost use Rattle.base.specs.Refusal.{refusal_number};
+    ghost use Rattle.base.specs.Outcome.{over};
+    ghost use Rattle.plan_output.specs.Output.{zeros, refused_bytes};
+
+    // The kind 7 record of a refusal.
+    fn refusal(refusal: Refusal) -> Output
+        ensures whole { result.bytes ≡ over (refused_bytes (refusal_number refusal)) zeros }
+        ensures size { result.count ≡ length (refused_bytes (refusal_number refusal)) }
+    {
+        let mut bytes = [0u8; LONGEST_FILE];
+        put_pair(
+            &mut bytes,
+            0,
+            Kind::Refused.length(HIGHEST) as u16,
+            Kind::Refused.number(),
+        );
+        put16(&mut bytes, 4, refusal.number());
+        Output {
+            bytes,
+            count: REFUSED_SIZE,
+        }
+    }
+
+    // The bytes of the output.
+    pub fn as_bytes(&self) -> &[u8]
+        ensures { result.now ≡ take self.now.count self.now.bytes }
+    {
+        &self.bytes[..self.count]
+    }
 }
 
 // The output for path bytes, of any length.
@@ -45,18 +69,11 @@ pub fn output_for(path: &[u8]) -> Output
     ensures { IsOutput path.now result.bytes result.count }
 {
     let mut bytes = [0u8; LONGEST_FILE];
-    let answer = plan_file(path, HIGHEST, &mut bytes);
-    match answer {
-        FileWritten::Wrote(size) => {
-            let count = size as usize;
-            Output { bytes, count }
-        }
-        FileWritten::Refused(number) => {
-            put_refused(&mut bytes, number);
-            Output {
-                bytes,
-                count: REFUSED_SIZE,
-            }
-        }
+    match plan_file(path, HIGHEST, &mut bytes) {
+        Ok(size) => Output {
+            bytes,
+            count: size as usize,
+        },
+        Err(refusal) => Output::refusal(refusal),
     }
 }

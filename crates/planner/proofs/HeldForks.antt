@@ -1,17 +1,15 @@
 -- M-101: A FORK HELD IN A STATE, by the bytes of a path. What fits a place is the admissible pairs of costs, so the walks are those of the graph that draws the
 -- total of the sets that hold the fork, and the best one is the order that is wanted among them.
-use mathlib.Core.Path.{◌≡◌, refl, sym, ap, ap₂, subst, ◌∙◌}
+use mathlib.Core.Path.{◌≡◌, refl, sym, ap, ap₂, ◌∙◌}
 use mathlib.Core.Bool.{Bool, true, false}
 use mathlib.Core.List.{List}
 use Prim.Native.Nat.{ℕ, zero, suc, ◌+◌, ◌*◌, ◌-◌, ◌/◌, ◌^◌, ◌≤◌, ◌<◌}
 use native.Mathlib.Nat.{mul-add-div_right, mul-le-mul_right, mul_comm, mul_assoc, le_of_mul-le-mul_right, lt_of_mul-lt-mul_right}
 use native.Mathlib.Decide.{dec_lt}
 use native.Mathlib.Omega.{arith}
-use lib.ListN.{length, replicate}
+use lib.ListN.{length}
 use lib.Pow.{pow_pos, pow_mono, pow-add}
-use borrow.Author.Tests.{ne_eqb}
 use Rattle.walks.specs.Best.{at, plan}
-use Rattle.walks.specs.Walk.{Graph}
 use Rattle.stop.specs.declared.Stop.{Stop}
 use Rattle.stop.specs.Lent.{all_in_range}
 use Rattle.path.specs.Path.{stops_in}
@@ -21,26 +19,26 @@ use Rattle.times.proofs.InPath.{time-in-path}
 use Rattle.tree.specs.Fork.{fork_above}
 use Rattle.tree.specs.Layers.{layers}
 use Rattle.tree.specs.Order.{order_of}
-use Rattle.tree.specs.Total.{entry, total}
+use Rattle.tree.specs.Total.{total}
 use Rattle.tree.specs.Wanted.{wanted, backward, Settled}
-use Rattle.tree.proofs.Backward.{backward-same}
 use Rattle.tree.proofs.Compare.{wanted-alike}
 use Rattle.tree.proofs.Diagonal.{total-same}
 use Rattle.tree.proofs.Layers.{tree_graph-open}
 use Rattle.tree.proofs.Open.{open-plan}
 use Rattle.tree.proofs.Wanted.{length-wanted}
-use Rattle.costs.specs.Costs.{held}
-use Rattle.costs.specs.Graphs.{AtDepth, admissible, held_graph}
+use Rattle.costs.specs.Graphs.{AtDepth, admissible}
 use Rattle.costs.proofs.Held.{held-plan, held-some, held-settled}
-use Rattle.rows.specs.declared.Costs.{Costs}
-use Rattle.rows.specs.Source.{Sources, held_fits, costs_of, ByPath}
-use Rattle.rows.proofs.Table.{stops-of, start_of, weight-of, fits-of, fits_all, entry-none}
-use Rattle.planner.specs.declared.halve.Solved.{Solved}
-use Rattle.planner.specs.Method.{all_walks, HasPlan, LeftByMethod}
-use Rattle.planner.specs.HeldFork.{LevelOf, holding, state_of, held_plan}
+use Rattle.std.specs.Prelude.{Option, None, Some, Ok}
+use Rattle.rows.specs.declared.fork.Held.{Held}
+use Rattle.rows.specs.Source.{held_fits, path_costing}
+use Rattle.base.specs.Outcome.{Outcome, gives}
+use Rattle.planner.specs.declared.Planned.{Planned}
+use Rattle.planner.specs.Method.{all_walks, LeftByMethod}
+use Rattle.planner.specs.Places.{OrderIsWritten}
+use Rattle.planner.specs.HeldFork.{LevelOf, HoldsFork, holding, state_of, held_plan}
 use Rattle.planner.specs.Plan.{Plan}
 use Rattle.planner.proofs.ByTable.{walks-layers, layers-same}
-use Rattle.planner.proofs.Written.{LeftByPlan}
+use Rattle.planner.proofs.Written.{written-best}
 
 -- ---- the level of a fork
 
@@ -108,12 +106,11 @@ fork-above : (k h level i : ℕ) → h + (level + 1) ≡ k → (2 ^ k + i) / 2 ^
 fork-above k h level i e = rw (← e, pow-add 2 h (level + 1)) (mul-add-div_right (pow_pos (level + 1)) (2 ^ h) i)
 
 -- a stop fits a place exactly if the pair is admissible
-pub fits-admissible : (c : Costs) (k : ℕ) → c.n ≡ 2 ^ k → (0 < c.fork) → (d : Deep k c.fork c.level) → (p i : ℕ) → held_fits c p i ≡ admissible k c.fork d.h c.state p i
+pub fits-admissible : (k v : ℕ) (f : Held) → f.fork ≡ v → (d : Deep k v f.level) → (p i : ℕ) → held_fits (2 ^ k) (Some f) p i ≡ admissible k v d.h (state_of f.exchanged) p i
 unfolding held_fits admissible
-fits-admissible c k e pos d p i =
-    let some : c.fork ≡ 0 → ⊥ = λ z. omega (arith, z) in
-    let up : (c.n + i) / 2 ^ (c.level + 1) ≡ fork_above k i d.h = rw (e, d.group) (fork-above k d.h c.level i (omega (arith, d.group, d.deep))) in
-    rw (ne_eqb c.fork 0 some, up, d.side)
+fits-admissible k v f e d p i =
+    let up : (2 ^ k + i) / 2 ^ (f.level + 1) ≡ fork_above k i d.h = rw d.group (fork-above k d.h f.level i (omega (arith, d.group, d.deep))) in
+    rw (e, up, d.side)
 
 -- ---- the sets that count
 
@@ -135,99 +132,57 @@ holding-long k cost fork state b h =
     let some = holding-some fork state h in
     length-wanted k cost (holding fork state) (holding-settled k fork state b) some.0 some.1
 
--- costs by a path's bytes, of 2^k stops, with a fork of theirs held or none
-pub record InPath (c : Costs) (s : Sources) (k : ℕ) : Type 0 where
-  pub count : c.n ≡ 2 ^ k
-  pub bytes : ByPath c s
-  pub inside : c.fork < 2 ^ k
-  pub level : 0 < c.fork → LevelOf (2 ^ k) c.fork c.level
+-- the best of the walks in which the stops fit their places is the order that is wanted among the sets that count
+layers-wanted : (k : ℕ) (t : ℕ → ℕ → ℕ) (v : ℕ) (exchanged : Bool) (f : Option Held) → HoldsFork (2 ^ k) v exchanged f → let w = wanted k (total t) (holding v (state_of exchanged)) in
+    plan (layers k (held_fits (2 ^ k) f) (λ i. 0) (λ p. t)) (2 ^ k - 1) ≡ at (total t w) (backward w)
+unfolding held_fits holding
+layers-wanted k t v exchanged None e = rw e (ap (λ x. plan x (2 ^ k - 1)) (sym (tree_graph-open k t)) ∙ open-plan k t)
+layers-wanted k t zero exchanged (Some f) h = absurd (omega (arith, h.0))
+layers-wanted k t (suc v) exchanged (Some f) h =
+    let d = level-deep k h.0 h.3 in
+    rw (← h.2)
+    (ap (λ x. plan x (2 ^ k - 1)) (layers-same k {s = λ i. 0} {w = λ p. t} (λ p i. fits-admissible k (suc v) f h.1 d p i) (λ i. refl) (λ p j i. refl))
+    ∙ held-plan k (suc v) d.h (state_of f.exchanged) d.deep d.depth (state-small f.exchanged refl) t)
 
-module _ (c : Costs) (s : Sources) (k : ℕ) (q : InPath c s k) where
+-- COSTS BY A PATH'S BYTES, of 2^k stops, with a fork of theirs held or none
+module _ (k version : ℕ) (bytes : List ℕ) (fork : ℕ) (exchanged : Bool) (held : Option Held) (inside : fork < 2 ^ k) (holds : HoldsFork (2 ^ k) fork exchanged held) where
   -- the time of a move, and the order that is wanted by it
-  times : ℕ → ℕ → ℕ
-  times = time_in c.version s.path
+  abbrev times : ℕ → ℕ → ℕ
+  times = time_in version bytes
 
-  wanted_in : List ℕ
-  wanted_in = wanted k (total times) (holding c.fork c.state)
+  abbrev counts : ℕ → Bool
+  counts = holding fork (state_of exchanged)
 
-  -- the walks are layers in which the stops fit their places
-  path-walks : all_walks (costs_of c s) ≡ layers k (held_fits c) (λ i. 0) (λ p. times)
-  unfolding times
-  path-walks =
-      walks-layers (costs_of c s) k (stops-of c s ∙ q.count)
-      ∙ layers-same k (fits-of c s)
-      (λ i. start_of c s i ∙ omega (arith, none c.closing i q.bytes.bare, none₂ i 0 q.bytes.flat))
-      (λ p j i. weight-of c s p j i ∙ omega (arith, none j i q.bytes.bare, none₂ i p q.bytes.flat))
-    where
-      none : (j i : ℕ) → length s.table ≡ 0 → entry c.n s.table j i ≡ 0
-      none j i e = entry-none c.n j i s.table e
+  abbrev wanted_in : List ℕ
+  wanted_in = wanted k (total times) counts
 
-      none₂ : (j i : ℕ) → length s.places ≡ 0 → entry c.n s.places j i ≡ 0
-      none₂ j i e = entry-none c.n j i s.places e
-
-  -- and the best of them is the order that is wanted
-  layers-wanted : plan (layers k (held_fits c) (λ i. 0) (λ p. times)) (2 ^ k - 1) ≡ at (total times wanted_in) (backward wanted_in)
-  unfolding wanted_in holding
-  layers-wanted = go c.fork refl
-    where
-      G : (ℕ → ℕ → Bool) → Graph
-      G fits = layers k fits (λ i. 0) (λ p. times)
-
-      same : (v : ℕ) → 0 < v → (g : Graph) → plan g (2 ^ k - 1) ≡ at (total times (wanted k (total times) (held v c.state))) (backward (wanted k (total times) (held v c.state)))
-          → plan g (2 ^ k - 1) ≡ at (total times (wanted k (total times) (holding v c.state))) (backward (wanted k (total times) (holding v c.state)))
-      same zero h g x = absurd (omega arith)
-      same (suc v) h g x = x
-
-      go : (v : ℕ) → c.fork ≡ v
-          → plan (G (held_fits c)) (2 ^ k - 1) ≡ at (total times (wanted k (total times) (holding v c.state))) (backward (wanted k (total times) (holding v c.state)))
-      go zero e = ap (λ x. plan x (2 ^ k - 1)) (layers-same k {s = λ i. 0} {w = λ p. times} (λ p i. fits_all c p i e) (λ i. refl) (λ p j i. refl) ∙ sym (tree_graph-open k times)) ∙ open-plan k times
-      go (suc v) e =
-          let pos : 0 < c.fork = omega (arith, e) in
-          let d = level-deep k pos (q.level pos) in
-          ap (λ x. plan x (2 ^ k - 1)) (layers-same k {s = λ i. 0} {w = λ p. times} (λ p i. fits-admissible c k q.count pos d p i) (λ i. refl) (λ p j i. refl))
-          ∙ subst (λ x. plan (held_graph k times c.fork d.h c.state) (2 ^ k - 1) ≡ at (total times (wanted k (total times) (holding x c.state))) (backward (wanted k (total times) (holding x c.state)))) e
-          (same c.fork pos _ (held-plan k c.fork d.h c.state d.deep d.depth q.bytes.state times))
-
-  -- the plan of the costs
-  path-plan : plan (all_walks (costs_of c s)) (c.n - 1) ≡ at (total times wanted_in) (backward wanted_in)
-  path-plan = ap₂ (λ G n. plan G (n - 1)) path-walks q.count ∙ layers-wanted
-
-  -- there is one
-  pub path-has-plan : HasPlan (costs_of c s) c.n
-  path-has-plan = record { cost = _; walk = _; found = path-plan }
+  -- so it is the plan of the costs
+  pub path-plan : {n : ℕ} → n ≡ 2 ^ k → plan (all_walks (path_costing n version bytes held)) (n - 1) ≡ at (total times wanted_in) (backward wanted_in)
+  path-plan e = rw e (ap (λ G. plan G (2 ^ k - 1)) (walks-layers (path_costing (2 ^ k) version bytes held) k refl) ∙ layers-wanted k times fork exchanged held holds)
 
   -- by judged bytes the times are those between the stops
-  module _ (range : all_in_range (stops_in c.version (2 ^ k) s.path) ≡ true) where
-    stops : List Stop
-    stops = stops_in c.version (2 ^ k) s.path
+  module _ (range : all_in_range (stops_in version (2 ^ k) bytes) ≡ true) where
+    abbrev stops : List Stop
+    stops = stops_in version (2 ^ k) bytes
 
-    planned : Plan
-    planned = held_plan k stops c.fork c.state
+    abbrev planned : Plan
+    planned = held_plan k stops fork (state_of exchanged)
 
     wanted-stops : (planned.order ≡ wanted_in) × (planned.total ≡ total times wanted_in)
-    unfolding stops planned wanted_in times
     wanted-stops =
-        let ok = holding c.fork c.state in
-        let some = holding-some c.fork c.state q.bytes.state in
-        let alike : (G : ℕ) → ok G ≡ true → total (entry_of stops) (order_of k G) ≡ total times (order_of k G) = λ G e. total-same k (entry_of stops) times (λ a b x y d. sym (time-in-path c.version (2 ^ k) s.path range a b x y)) G in
-        wanted-alike k ok (holding-settled k c.fork c.state q.inside) some.0 some.1 (total times) (total (entry_of stops)) alike
+        let some = holding-some fork (state_of exchanged) (state-small exchanged refl) in
+        let alike : (G : ℕ) → counts G ≡ true → total (entry_of stops) (order_of k G) ≡ total times (order_of k G) = λ G e. total-same k (entry_of stops) times (λ a b x y d. sym (time-in-path version (2 ^ k) bytes range a b x y)) G in
+        wanted-alike k counts (holding-settled k fork (state_of exchanged) inside) some.0 some.1 (total times) (total (entry_of stops)) alike
 
     -- it is as long as the places
-    pub path-long : length (held_plan k (stops_in c.version (2 ^ k) s.path) c.fork c.state).order ≡ 2 ^ k
-    path-long = holding-long k (total (entry_of (stops_in c.version (2 ^ k) s.path))) c.fork c.state q.inside q.bytes.state
+    pub path-long : length planned.order ≡ 2 ^ k
+    path-long = holding-long k (total (entry_of stops)) fork (state_of exchanged) inside (state-small exchanged refl)
 
-    -- AND THE METHOD LEAVES THE ORDER THAT IS WANTED BY THEM
-    pub path-left : {order totals pivots : List ℕ} (r : Solved) → LeftByMethod (costs_of c s) c.n k order totals pivots r
-        → LeftByPlan k (held_plan k (stops_in c.version (2 ^ k) s.path) c.fork c.state) order totals pivots r.total
-    unfolding stops planned
-    path-left {order} r m =
-        let w = wanted-stops in
-        let same : at r.total (backward order) ≡ at planned.total (backward planned.order) = sym m.best.planned ∙ path-plan ∙ ap₂ (λ x y. at x (backward y)) (sym w.1) (sym w.0) in
-        let sum : r.total ≡ planned.total = cc in
-        let back : backward order ≡ backward planned.order = cc in
-        record {
-          wrote = backward-same order planned.order (m.best.long ∙ q.count ∙ sym path-long) back;
-          summed = sum;
-          totals_cleared = m.cleared ∙ ap (λ n. replicate (n + n) 0) q.count;
-          pivots_cleared = m.unmarked ∙ ap (λ n. replicate (n + n) 0) q.count;
-        }
+    -- AND THE PLAN OF THE COSTS IS THE ORDER THAT IS WANTED BY THEM
+    pub path-wanted : {n : ℕ} → n ≡ 2 ^ k → plan (all_walks (path_costing n version bytes held)) (n - 1) ≡ at planned.total (backward planned.order)
+    path-wanted e = let w = wanted-stops in path-plan e ∙ ap₂ (λ x y. at x (backward y)) (sym w.1) (sym w.0)
+
+    -- SO THE METHOD LEAVES THE ORDER THAT IS WANTED BY THEM
+    pub path-left : {n : ℕ} {o : Outcome Plan} {order totals pivots order' totals' pivots' : List ℕ} (r : Planned) → n ≡ 2 ^ k → o ≡ gives planned
+        → LeftByMethod (path_costing n version bytes held) k order totals pivots order' totals' pivots' r → OrderIsWritten k o order totals pivots order' totals' pivots' (Ok r.total)
+    path-left r e g m = written-best planned r e g path-long (path-wanted e) (λ s w. s) m

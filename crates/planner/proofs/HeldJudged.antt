@@ -5,10 +5,10 @@ use Prim.Native.Nat.{ℕ, ◌+◌, ◌*◌, ◌^◌, ◌≤◌, ◌<◌}
 use native.Mathlib.Decide.{dec_le}
 use native.Mathlib.Omega.{arith}
 use lib.Dec.{ltb}
-use borrow.Author.Tests.{ltb-true, lt-ltb, le-ltb, lt-leb, le-leb, eq-eqb}
-use Rattle.base.specs.Outcome.{gives, number}
+use borrow.Author.Tests.{ltb-true, lt-ltb, lt-leb, le-leb, eq-eqb}
+use Rattle.base.specs.Outcome.{gives, number, done}
 use Rattle.base.specs.Size.{stop_count}
-use Rattle.base.proofs.Outcome.{number-first, passed, refused}
+use Rattle.base.proofs.Outcome.{number-first, passed, done-good}
 use Rattle.base.proofs.Size.{stop_count-pow, pow-le-1024}
 use Rattle.path.specs.Path.{body_after_head, stops_in}
 use Rattle.path.proofs.JudgeLaws.{JudgedBody, body-good}
@@ -17,9 +17,9 @@ use Rattle.planner.specs.HeldFork.{held_plan, plan_held}
 use Rattle.planner.proofs.Judged.{Fit, judged}
 
 -- the lengths are judged by as many stops as the code counts
-pub room-counted : (k order totals pivots : ℕ) → plan_room k (stop_count k * stop_count k) order totals pivots ≡ plan_room k (2 ^ k * 2 ^ k) order totals pivots
+pub room-counted : {n : ℕ} (k order totals pivots : ℕ) → n ≡ stop_count k → plan_room k (n * n) order totals pivots ≡ plan_room k (2 ^ k * 2 ^ k) order totals pivots
 unfolding plan_room
-room-counted k order totals pivots = go (dec_le k 10)
+room-counted {n} k order totals pivots e = rw e (go (dec_le k 10))
   where
     go : Dec (k ≤ 10) → plan_room k (stop_count k * stop_count k) order totals pivots ≡ plan_room k (2 ^ k * 2 ^ k) order totals pivots
     go (yes h) = rw (stop_count-pow k h)
@@ -71,23 +71,6 @@ module _ (bytes : List ℕ) (version k fork order totals pivots : ℕ) where
       let last = passed (ltb fork (2 ^ k)) 14 _ (omega arith) (rw body.stops at rest) in
       record { fit = room; body = body; inside = ltb-true _ _ last.holds }
 
-  -- lengths that are refused
-  pub held-lengths : (state x : ℕ) → x ≡ number (plan_room k (2 ^ k * 2 ^ k) order totals pivots) → (x ≡ 0 → ⊥) → x ≡ number (plan_held bytes version k fork state order totals pivots)
-  unfolding plan_held
-  held-lengths state x e f = rw (refused (plan_room k (2 ^ k * 2 ^ k) order totals pivots) x e f)
-
-  module _ (fit : Fit k (2 ^ k * 2 ^ k) order totals pivots) where
-    -- a body that is
-    pub held-body : (state x : ℕ) → x ≡ number (body_after_head bytes version k) → (x ≡ 0 → ⊥) → x ≡ number (plan_held bytes version k fork state order totals pivots)
-    unfolding plan_held
-    held-body state x e f = rw (fit.same, refused (body_after_head bytes version k) x e f)
-
-    -- a fork that is not there, and one that is
-    module _ (body : JudgedBody bytes version k) (state : ℕ) where
-      pub held-nowhere : 2 ^ k ≤ fork → 14 ≡ number (plan_held bytes version k fork state order totals pivots)
-      unfolding plan_held
-      held-nowhere h = rw (fit.same, body.stops, le-ltb fork (2 ^ k) h)
-
-      pub held-there : fork < 2 ^ k → 0 ≡ number (plan_held bytes version k fork state order totals pivots)
-      unfolding plan_held
-      held-there h = rw (fit.same, body.stops, lt-ltb fork (2 ^ k) h)
+-- the same of a `Result` that is no refusal
+pub held-ok : {bytes : List ℕ} {version k fork order totals pivots : ℕ} (state : ℕ) {u : Unit} → gives u ≡ done (plan_held bytes version k fork state order totals pivots) → HeldFit bytes version k fork order totals pivots
+held-ok {bytes} {version} {k} {fork} {order} {totals} {pivots} state e = held-judged bytes version k fork order totals pivots state (done-good (plan_held bytes version k fork state order totals pivots) e)

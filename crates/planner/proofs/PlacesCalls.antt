@@ -13,15 +13,14 @@ use Rattle.tree.proofs.Open.{length-wanted}
 use Rattle.costs.specs.Costs.{placed_total}
 use Rattle.costs.proofs.Bounds.{placed-small}
 use Rattle.costs.proofs.Placed.{placed-shortest, placed-long, placed_same, placed_one}
-use Rattle.planner.specs.declared.Planned.TheVariants as plain
-use Rattle.planner.specs.declared.Ordered.TheVariants.{Done}
+use Rattle.std.specs.Prelude.{Ok}
 use Rattle.planner.specs.Plan.{Plan, plan_order, OrderIsPlanned}
-use Rattle.planner.specs.Places.{places_room, placed_plan, plan_places, order_said, OrderIsWritten}
+use Rattle.planner.specs.Places.{places_room, placed_plan, plan_places, OrderIsWritten}
 use Rattle.planner.proofs.Judged.{when-planned, total-said}
 
 -- an accepting call
 module _ (k : ℕ) (table places order totals pivots order' totals' pivots' : List ℕ) (c : ℕ)
-    (p : OrderIsWritten k (plan_places k table places (length order) (length totals) (length pivots)) order totals pivots order' totals' pivots' (Done c)) where
+    (p : OrderIsWritten k (plan_places k table places (length order) (length totals) (length pivots)) order totals pivots order' totals' pivots' (Ok c)) where
   -- the entries of the two tables
   abbrev t : ℕ → ℕ → ℕ
   t = entry (2 ^ k) table
@@ -31,7 +30,6 @@ module _ (k : ℕ) (table places order totals pivots order' totals' pivots' : Li
 
   -- its plan is the wanted one
   places-planned : plan_places k table places (length order) (length totals) (length pivots) ≡ gives (placed_plan k table places)
-  unfolding order_said
   places-planned = by (places_room k (length table) (length places) (length order) (length totals) (length pivots)) p.said
     where
       by : (o : Outcome Unit) → gives c ≡ giving (λ (q : Plan). q.total) (giving (λ room. placed_plan k table places) o) → giving (λ room. placed_plan k table places) o ≡ gives (placed_plan k table places)
@@ -45,7 +43,6 @@ module _ (k : ℕ) (table places order totals pivots order' totals' pivots' : Li
       rw wrote (take_at (placed_plan k table places).order _ (2 ^ k) (placed-long k t x))
 
   pub places-total : c ≡ placed_total t x (wanted k (placed_total t x) every)
-  unfolding order_said
   places-total = let e : gives c ≡ gives (placed_plan k table places).total = rw places-planned at p.said in cc
 
   -- BOTH HALVES OF OPTIMALITY, and the rule for equals, for the total with the places
@@ -60,7 +57,7 @@ module _ (k : ℕ) (table places order totals pivots order' totals' pivots' : Li
 
   -- 'A second table all zero gives the plain result'; and one that is d everywhere the plain order, at n times d more
   pub places_same : (d : ℕ) → ((i j : ℕ) → i < 2 ^ k → j < 2 ^ k → x i j ≡ d) → (order₂ totals₂ pivots₂ order₃ totals₃ pivots₃ : List ℕ) (c₂ w : ℕ)
-      → OrderIsPlanned k (plan_order k table (length order₂) (length totals₂) (length pivots₂)) order₂ totals₂ pivots₂ order₃ totals₃ pivots₃ (plain.Done c₂ w)
+      → OrderIsPlanned k (plan_order k table (length order₂) (length totals₂) (length pivots₂)) order₂ totals₂ pivots₂ order₃ totals₃ pivots₃ (Ok (record { total = c₂; weighings = w }))
       → (take (2 ^ k) order' ≡ take (2 ^ k) order₃) × (c ≡ c₂ + 2 ^ k * d)
   places_same d h order₂ totals₂ pivots₂ order₃ totals₃ pivots₃ c₂ w q =
       let o = when-planned k table order₂ totals₂ pivots₂ order₃ totals₃ pivots₃ c₂ w q in
@@ -73,6 +70,6 @@ module _ (k : ℕ) (table places order totals pivots order' totals' pivots' : Li
 
 -- 'For n = 1 the total is the single entry'
 pub places-one : (table places order totals pivots order' totals' pivots' : List ℕ) (c : ℕ)
-    → OrderIsWritten 0 (plan_places 0 table places (length order) (length totals) (length pivots)) order totals pivots order' totals' pivots' (Done c) → c ≡ entry 1 places 0 0
+    → OrderIsWritten 0 (plan_places 0 table places (length order) (length totals) (length pivots)) order totals pivots order' totals' pivots' (Ok c) → c ≡ entry 1 places 0 0
 places-one table places order totals pivots order' totals' pivots' c p =
     places-total 0 table places order totals pivots order' totals' pivots' c p ∙ placed_one (entry 1 table) (entry 1 places)

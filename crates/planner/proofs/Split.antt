@@ -8,21 +8,14 @@ use lib.ListN.{get_or, set}
 use lib.Pow.{pow_pos}
 use Rattle.tree.specs.Neighbour.{may_follow, in_place}
 use Rattle.tree.proofs.Block.{block_of}
-use Rattle.rows.specs.declared.Costs.{Costs}
 use Rattle.rows.specs.Costing.{Costing, block_graph}
-use Rattle.rows.specs.Source.{Sources, Readable}
 use Rattle.rows.specs.Pass.{AlignedBlock, PassReady, RowHolds}
 use Rattle.rows.proofs.Blocks.{pow-half}
 use Rattle.planner.specs.Method.{stop_before, HoldsStops, LentSizes, LastReached, MiddleFixed}
 use Rattle.planner.proofs.Halving.{base-follows, block_in, whole-block, pivot-found}
 use Rattle.planner.proofs.Sizes.{sizes-pos, sizes-rows}
 
--- past place 0 the stop before is that of the place before
-pub before-pos : (o : List ℕ) (left : ℕ) → 0 < left → stop_before o left ≡ in_place o (left - 1)
-before-pos o zero h = absurd (omega arith)
-before-pos o (suc l) h = let e : suc l - 1 ≡ l = omega arith in rw e
-
--- it is a stop
+-- the stop before is a stop
 before-below : {n : ℕ} {o : List ℕ} (left : ℕ) → 0 < n → left ≤ n → HoldsStops n o → stop_before o left < n
 before-below zero pos h s = pos
 before-below (suc l) pos h s = s.below l (omega arith)
@@ -72,9 +65,9 @@ around C {n} {left} {m} {before} {o} k last size whole a s f e is earlier = reco
     high = omega (arith, near.1, end)
 
 -- so the pass can be asked for
-pub pass-ready : {c : Costs} {s : Sources} {order totals pivots before left base m : ℕ} {o : List ℕ} → Readable c s → LentSizes c.n order totals pivots → 0 < m → AlignedBlock c.n left m
-    → Around c.n o left m base before → PassReady c s totals pivots before left base m
-pass-ready r z some a d = record { readable = r; space = sizes-rows z; some = some; places = a; stops = d.stops; earlier = d.below; follows = d.follows }
+pub pass-ready : {n order totals pivots before left base m : ℕ} {o : List ℕ} → LentSizes n order totals pivots → 0 < m → AlignedBlock n left m
+    → Around n o left m base before → PassReady n totals pivots before left base m
+pass-ready z some a d = record { space = sizes-rows z; some = some; places = a; stops = d.stops; earlier = d.below; follows = d.follows }
 
 -- and its row has the right pivot
 pub middle-fixed : (C : Costing) {n left m base before half : ℕ} {o u B P : List ℕ} → 0 < m → half ≡ 2 ^ (m - 1) → Around n o left m base before
@@ -91,9 +84,8 @@ middle-fixed C {n} {left} {m} {base} {before} {half} {o} {u} {B} {P} some h d ro
     }
 
 -- the pass over all places can be asked for
-pub pass-whole : {c : Costs} {s : Sources} {order totals pivots k : ℕ} → Readable c s → LentSizes c.n order totals pivots → 0 < k → c.n ≡ 2 ^ k → PassReady c s totals pivots 0 0 0 k
-pass-whole {k = k} r z some e = record {
-  readable = r;
+pub pass-whole : {n order totals pivots k : ℕ} → LentSizes n order totals pivots → 0 < k → n ≡ 2 ^ k → PassReady n totals pivots 0 0 0 k
+pass-whole {k = k} z some e = record {
   space = sizes-rows z;
   some = some;
   places = whole-block e;

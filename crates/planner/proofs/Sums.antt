@@ -6,11 +6,12 @@ use native.Mathlib.Nat.{pow-succ'}
 use native.Mathlib.Omega.{arith}
 use lib.ListN.{length, length-replicate}
 use borrow.Author.Tests.{le-leb, lt-leb}
-use Rattle.base.specs.Outcome.{gives}
-use Rattle.planner.specs.declared.Planned.TheVariants.{Done}
-use Rattle.planner.specs.declared.Foretold.TheVariants.{Takes, Refused}
+use Rattle.base.specs.Outcome.{gives, said}
+use Rattle.std.specs.Prelude.{Ok, Err}
+use Rattle.base.specs.declared.Refusal.TheVariants.{WrongK}
+use Rattle.planner.specs.declared.Foretold.{Foretold}
 use Rattle.planner.specs.Method.{solve_weighings, plan_weighings}
-use Rattle.planner.specs.Weighings.{pass_makes, plan_makes, foretold_weighings, foretold_bytes, foretold, foresaid}
+use Rattle.planner.specs.Weighings.{pass_makes, plan_makes, foretold_weighings, foretold_bytes, foretold}
 use Rattle.planner.specs.Plan.{plan_order, cleared, OrderIsPlanned}
 use Rattle.planner.proofs.Weighings.{pass-makes, plan-makes}
 use Rattle.planner.proofs.Judged.{when-planned, weighings-said}
@@ -40,13 +41,13 @@ foretold-more (suc zero) h = absurd (omega arith)
 foretold-more (suc (suc j)) h = let e : suc (suc j) - 1 ≡ suc j = omega arith in rw e
 
 -- k alone decides: it is refused ..
-pub foretold-refused : (k : ℕ) → 10 < k → foresaid (Refused 5) ≡ foretold k
-unfolding foresaid foretold
+pub foretold-refused : (k : ℕ) → 10 < k → said {A = Foretold} (Err WrongK) ≡ foretold k
+unfolding foretold
 foretold-refused k h = rw (lt-leb _ _ h)
 
 -- .. or gives both numbers
-pub foretold-given : (k b w : ℕ) → k ≤ 10 → b ≡ foretold_bytes k → w ≡ foretold_weighings k → foresaid (Takes b w) ≡ foretold k
-unfolding foresaid foretold
+pub foretold-given : (k b w : ℕ) → k ≤ 10 → b ≡ foretold_bytes k → w ≡ foretold_weighings k → said {A = Foretold} (Ok (record { bytes = b; weighings = w })) ≡ foretold k
+unfolding foretold
 foretold-given k b w h e f = rw (le-leb _ _ h, e, f)
 
 -- 20n bytes
@@ -61,7 +62,7 @@ foretold-bytes k = rw (length-replicate {A = ℕ} (2 ^ k + 2 ^ k) 0) (omega arit
 
 -- OF THE CALLS: a plan that is accepted reports as many weighings as its k foretold
 pub plan-foretold : (k : ℕ) (table order totals pivots order' totals' pivots' : List ℕ) (c w : ℕ)
-    → OrderIsPlanned k (plan_order k table (length order) (length totals) (length pivots)) order totals pivots order' totals' pivots' (Done c w) → w ≡ foretold_weighings k
+    → OrderIsPlanned k (plan_order k table (length order) (length totals) (length pivots)) order totals pivots order' totals' pivots' (Ok (record { total = c; weighings = w })) → w ≡ foretold_weighings k
 plan-foretold k table order totals pivots order' totals' pivots' c w p =
     let o = when-planned k table order totals pivots order' totals' pivots' c w p in
     let e : gives w ≡ gives (plan_makes k) = rw o at (weighings-said k c w (plan_order k table (length order) (length totals) (length pivots)) p.said) in

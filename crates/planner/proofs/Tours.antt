@@ -10,6 +10,7 @@ use lib.Dec.{ltb}
 use lib.ListN.{length, get_or, set}
 use lib.Pow.{pow_pos}
 use lib.Seq.{get_or-set_same}
+use Rattle.std.specs.Prelude.{Some}
 use Rattle.base.proofs.Size.{pow-le-1024}
 use Rattle.walks.specs.Best.{at, scan, best}
 use Rattle.walks.specs.Places.{stops_to}
@@ -25,12 +26,10 @@ use Rattle.costs.specs.Graphs.{home}
 use Rattle.costs.specs.Ends.{best_end}
 use Rattle.costs.proofs.Ends.{ends_more, TourEnd, tour-end}
 use Rattle.costs.proofs.Tour.{tour-long, tour-one}
-use Rattle.rows.specs.declared.Costs.{Costs}
-use Rattle.rows.specs.Source.{Sources, costs_of, Readable}
+use Rattle.rows.specs.Costing.{Costing}
+use Rattle.rows.specs.Source.{table_costing}
 use Rattle.rows.specs.Row.{unreached}
 use Rattle.rows.specs.Pass.{PassReady, PassMade}
-use Rattle.times.proofs.InPath.{time-nowhere}
-use Rattle.rows.proofs.Table.{stops-of, entry-none, fits-of, fits_all, start_of, weight-of, readable-table}
 use Rattle.planner.specs.declared.halve.Choice.{Choice}
 use Rattle.planner.specs.Method.{all_walks, LastReached, BlockSolved}
 use Rattle.planner.specs.Tour.{TourSizes, tours_to, EndWeighed, EndHeld, TourWritten}
@@ -38,8 +37,8 @@ use Rattle.planner.proofs.Halving.{whole-block}
 use Rattle.planner.proofs.ByTable.{walks-layers, layers-same}
 
 -- the costs of tours that end with stop e
-abbrev pub closing : ℕ → ℕ → Costs
-closing n e = record { n = n; by = 0; closing = e; version = 0; fork = 0; level = 0; state = 0 }
+abbrev pub closing : ℕ → List ℕ → ℕ → Costing
+closing n table e = table_costing n table (Some e)
 
 -- at most 1,024 stops, and at least one
 pub tour-few : {n k l : ℕ} → TourSizes n k l → n ≤ 1024
@@ -48,35 +47,19 @@ tour-few {k = k} s = rw s.stops (pow-le-1024 k s.small)
 pub tour-pos : {n k l : ℕ} → TourSizes n k l → 0 < n
 tour-pos {k = k} s = rw s.stops (pow_pos k)
 
--- a table alone is lent
-pub record Bare (s : Sources) : Type 0 where
-  pub flat : length s.places ≡ 0
-  pub alone : length s.path ≡ 0
-
-module _ (n k : ℕ) (s : Sources) (sizes : TourSizes n k (length s.table)) (none : Bare s) where
-  -- the slices suffice
-  pub tour-readable : (e : ℕ) → Readable (closing n e) s
-  tour-readable e = readable-table (tour-few sizes) refl (record { square = sizes.square; extra = none.flat; alone = none.alone; free = refl })
-
+module _ (n k : ℕ) (table : List ℕ) (sizes : TourSizes n k (length table)) where
   -- the walks are those of the tours
-  pub tour-walks : (e : ℕ) → all_walks (costs_of (closing n e) s) ≡ tours_to n k s.table e
+  pub tour-walks : (e : ℕ) → all_walks (closing n table e) ≡ tours_to n k table e
   unfolding home
-  tour-walks e = walks-layers (costs_of (closing n e) s) k (stops-of (closing n e) s ∙ sizes.stops) ∙ layers-same k (λ p i. fits-of (closing n e) s p i ∙ fits_all (closing n e) p i refl) (start k sizes.some) weight
+  tour-walks e = walks-layers (closing n table e) k sizes.stops ∙ layers-same k (λ p i. refl) (begins k sizes.some) (λ p j i. refl)
     where
-      begins : (m : ℕ) → 0 < m → (i : ℕ) → entry n s.table e i ≡ home m (entry n s.table) e i
+      begins : (m : ℕ) → 0 < m → (i : ℕ) → entry n table e i ≡ home m (entry n table) e i
       begins zero h i = absurd (omega arith)
       begins (suc m) h i = refl
 
-      start : (m : ℕ) → 0 < m → (i : ℕ) → (costs_of (closing n e) s).start i ≡ home m (entry n s.table) e i
-      start m h i = start_of (closing n e) s i ∙ omega (arith, entry-none n i 0 s.places none.flat, begins m h i)
-
-      weight : (p j i : ℕ) → (costs_of (closing n e) s).weight p j i ≡ entry n s.table j i
-      weight p j i = weight-of (closing n e) s p j i ∙ omega (arith, entry-none n i p s.places none.flat, time-nowhere 0 s.path none.alone j i)
-
   -- a pass over all places is asked for rightly
-  pub tour-ready : (e totals pivots : ℕ) → totals ≡ n + n → pivots ≡ n + n → PassReady (closing n e) s totals pivots 0 0 0 k
-  tour-ready e totals pivots b p = record {
-    readable = tour-readable e;
+  pub tour-ready : (totals pivots : ℕ) → totals ≡ n + n → pivots ≡ n + n → PassReady n totals pivots 0 0 0 k
+  tour-ready totals pivots b p = record {
     space = record { rows = omega (arith, b); marks = omega (arith, p) };
     some = sizes.some;
     places = whole-block sizes.stops;
@@ -86,9 +69,9 @@ module _ (n k : ℕ) (s : Sources) (sizes : TourSizes n k (length s.table)) (non
   }
 
   -- its last row weighs the last stop
-  pub end-weighed : (e : ℕ) {B P B' P' : List ℕ} {r : ℕ} → e < n → length B ≡ n + n → length P ≡ n + n → PassMade (closing n e) s 0 0 0 k B P B' P' r → EndWeighed n k s.table e (get_or B' (n + e) 0)
+  pub end-weighed : (e : ℕ) {B P B' P' : List ℕ} {r : ℕ} → e < n → length B ≡ n + n → length P ≡ n + n → PassMade (closing n table e) 0 0 0 k B P B' P' r → EndWeighed n k table e (get_or B' (n + e) 0)
   end-weighed e {B} {P} {B'} {P'} h b p made =
-      let row = (made.made (tour-ready e (length B) (length P) b p)).row in
+      let row = (made.made (tour-ready (length B) (length P) b p)).row in
       record {
         pivot = get_or P' (n + e) 0;
         codes = subst (λ G. Codes unreached (get_or B' (n + e) 0) (get_or P' (n + e) 0) (line G (2 ^ (k - 1) - 1) (2 ^ k - 1) e)) (tour-walks e) (row.holds e (omega arith) (omega (arith, sizes.stops)));
@@ -123,29 +106,29 @@ held-end {n} {k} {l} {table} {held} z h =
     tour-end k (entry n table) unreached (2 ^ (k - 1) - 1) held.total held.stop
     (subst (λ m. Codes unreached held.total held.stop (best_end (tours_to n k table) (2 ^ (k - 1) - 1) (2 ^ k - 1) m)) z.stops h.codes)
 
-module _ (n k : ℕ) (s : Sources) (sizes : TourSizes n k (length s.table)) (none : Bare s) (held : Choice) (h : EndHeld n k s.table n held) where
+module _ (n k : ℕ) (table : List ℕ) (sizes : TourSizes n k (length table)) (held : Choice) (h : EndHeld n k table n held) where
   -- the best walk to that stop, in the last place of an order
   tour-found : (o : List ℕ) → length o ≡ n
-      → best (all_walks (costs_of (closing n held.stop) s)) (2 ^ k - 1) (in_place (set o (n - 1) held.stop) (0 + 2 ^ k - 1)) ≡ at held.total (held-end sizes h).rest
+      → best (all_walks (closing n table held.stop)) (2 ^ k - 1) (in_place (set o (n - 1) held.stop) (0 + 2 ^ k - 1)) ≡ at held.total (held-end sizes h).rest
   tour-found o long =
       let place : 0 + 2 ^ k - 1 ≡ n - 1 = omega (arith, sizes.stops) in
       let last : in_place (set o (n - 1) held.stop) (0 + 2 ^ k - 1) ≡ held.stop = rw place (get_or-set_same o (n - 1) held.stop 0 (omega (arith, tour-pos sizes))) in
-      ap₂ (λ G i. best G (2 ^ k - 1) i) (tour-walks n k s sizes none held.stop) last ∙ (held-end sizes h).found
+      ap₂ (λ G i. best G (2 ^ k - 1) i) (tour-walks n k table sizes held.stop) last ∙ (held-end sizes h).found
 
   -- so such an order can be solved
-  pub tour-reached : (o : List ℕ) → length o ≡ n → LastReached (costs_of (closing n held.stop) s) (set o (n - 1) held.stop) 0 k
+  pub tour-reached : (o : List ℕ) → length o ≡ n → LastReached (closing n table held.stop) (set o (n - 1) held.stop) 0 k
   tour-reached o long = record { cost = held.total; walk = (held-end sizes h).rest; found = tour-found o long }
 
   -- and then it is the wanted tour
-  pub tour-solved : (o u : List ℕ) → length o ≡ n → length u ≡ n → BlockSolved n (costs_of (closing n held.stop) s) 0 k (set o (n - 1) held.stop) u → TourWritten n k s.table u held.total
+  pub tour-solved : (o u : List ℕ) → length o ≡ n → length u ≡ n → BlockSolved n (closing n table held.stop) 0 k (set o (n - 1) held.stop) u → TourWritten n k table u held.total
   tour-solved o u long same b =
       let e = held-end sizes h in
-      let w : List ℕ = wanted k (closed_total (entry n s.table)) every in
+      let w : List ℕ = wanted k (closed_total (entry n table)) every in
       let z : 2 ^ k - 1 ≡ n - 1 = omega (arith, sizes.stops) in
       let ends : in_place u (2 ^ k - 1) ≡ held.stop = b.after (2 ^ k - 1) (omega (arith, pow_pos k)) ∙ rw z (get_or-set_same o (n - 1) held.stop 0 (omega (arith, tour-pos sizes))) in
       let rest : stops_to (in_place u) (2 ^ k - 1) ≡ e.rest = b.filled held.total e.rest (tour-found o long) in
       let back : backward u ≡ held.stop ∷ e.rest = backward-last k u (same ∙ sizes.stops) ∙ ap₂ ◌∷◌ ends rest in
-      record { tour = backward-same u w (same ∙ sizes.stops ∙ sym (tour-long k (entry n s.table))) (back ∙ sym e.back); total = e.sum }
+      record { tour = backward-same u w (same ∙ sizes.stops ∙ sym (tour-long k (entry n table))) (back ∙ sym e.back); total = e.sum }
 
 -- one stop is its own tour
 pub tour-alone : {n k : ℕ} (table order : List ℕ) → n ≡ 2 ^ k → k ≡ 0 → order ≡ 0 ∷ [] → TourWritten n k table order 0

@@ -1,17 +1,19 @@
 -- M-101: planning by the times between the stops of a path, where a fork may be held in a state; and what the private functions promise.
-use Rattle.std.specs.Prelude.{Bool, true, cond, List, ℕ, zero, suc, ◌+◌, ◌*◌, ◌^◌, ◌≤◌, ◌<◌, ltb, length}
+use Rattle.std.specs.Prelude.{◌≡◌, Bool, true, cond, List, ℕ, zero, suc, ◌+◌, ◌*◌, ◌^◌, ◌≤◌, ◌<◌, ltb, length, Option, None, Some, Result}
+use Rattle.base.specs.declared.Refusal.{Refusal}
 use Rattle.base.specs.Refusal.{no_such_fork}
 use Rattle.base.specs.Outcome.{Outcome, gives, need, and_then}
-use Rattle.base.specs.Buffer.{Unsigned, SharedUnsigned, at_entry, at_exit, contents}
+use Rattle.base.specs.Buffer.{Unsigned, at_entry, at_exit}
 use Rattle.stop.specs.declared.Stop.{Stop}
+use Rattle.path.specs.declared.PathBytes.{PathBytes}
 use Rattle.path.specs.Path.{body_after_head}
 use Rattle.times.specs.Table.{entry_of}
 use Rattle.tree.specs.Total.{total}
 use Rattle.tree.specs.Wanted.{wanted}
 use Rattle.costs.specs.Costs.{held}
+use Rattle.rows.specs.declared.fork.Held.{Held}
 use Rattle.planner.specs.Plan.{Plan, plan_room}
 use Rattle.planner.specs.Places.{OrderIsWritten}
-use Rattle.planner.specs.declared.Ordered.{Ordered}
 
 -- the sets of forks that count: 'with that fork in the opposite state', those that hold it in the state, 1 for exchanged; 0 is no fork, and all sets count
 unfoldable pub holding : (fork state : ℕ) → ℕ → Bool
@@ -38,9 +40,9 @@ plan_held bytes version k fork state order totals pivots =
     (gives (held_plan k stops fork state))))
 
 -- the promise, of the call's parameters
-abbrev pub PlansHeld : SharedUnsigned → ℕ → ℕ → ℕ → Bool → Unsigned → Unsigned → Unsigned → Ordered → Type 0
-PlansHeld bytes version k fork exchanged order totals pivots r =
-    OrderIsWritten k (plan_held (contents bytes) version k fork (state_of exchanged) (length (at_entry order)) (length (at_entry totals)) (length (at_entry pivots)))
+abbrev pub PlansHeld : PathBytes → ℕ → Bool → Unsigned → Unsigned → Unsigned → Result ℕ Refusal → Type 0
+PlansHeld p fork exchanged order totals pivots r =
+    OrderIsWritten p.k (plan_held p.bytes.now p.version p.k fork (state_of exchanged) (length (at_entry order)) (length (at_entry totals)) (length (at_entry pivots)))
     (at_entry order) (at_entry totals) (at_entry pivots) (at_exit order) (at_exit totals) (at_exit pivots) r
 
 -- ---- the method
@@ -49,3 +51,8 @@ PlansHeld bytes version k fork exchanged order totals pivots r =
 pub record LevelOf (n fork level : ℕ) : Type 0 where
   pub inside : fork * 2 ^ level < n
   pub whole : n ≤ fork * 2 ^ (level + 1)
+
+-- this fork of n stops is held so, and none where its number is 0
+abbrev pub HoldsFork : ℕ → ℕ → Bool → Option Held → Type 0
+HoldsFork n fork exchanged None = fork ≡ 0
+HoldsFork n fork exchanged (Some h) = (0 < fork) × (h.fork ≡ fork) × (h.exchanged ≡ exchanged) × LevelOf n fork h.level

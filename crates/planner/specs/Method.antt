@@ -10,7 +10,8 @@ use Rattle.tree.specs.Wanted.{backward}
 use Rattle.rows.specs.Costing.{Costing, block_graph}
 use Rattle.rows.specs.Row.{unreached}
 use Rattle.rows.specs.Pass.{pass_weighings}
-use Rattle.planner.specs.declared.halve.Solved.{Solved}
+use Rattle.base.specs.Outcome.{over}
+use Rattle.planner.specs.declared.Planned.{Planned}
 
 -- of x 0, x 1, .. the first d: the least that is below `unreached`, with its number; of equals the smaller number
 unfoldable pub least_of : (ℕ → ℕ) → ℕ → ℕ × ℕ
@@ -94,8 +95,18 @@ pub record BestOrder (C : Costing) (n : ℕ) (order : List ℕ) (total : ℕ) : 
   pub planned : plan (all_walks C) (n - 1) ≡ at total (backward order)
 
 -- what a run of the method leaves: the best order and its total, the number of weighings, and work space that is 0
-pub record LeftByMethod (C : Costing) (n k : ℕ) (order totals pivots : List ℕ) (r : Solved) : Type 0 where
-  pub best : BestOrder C n order r.total
+pub record LeftByMethod (C : Costing) (k : ℕ) (order totals pivots order' totals' pivots' : List ℕ) (r : Planned) : Type 0 where
+  pub found : List ℕ
+  pub best : BestOrder C C.stops found r.total
   pub counted : r.weighings ≡ plan_weighings k
-  pub cleared : totals ≡ replicate (n + n) 0
-  pub unmarked : pivots ≡ replicate (n + n) 0
+  pub wrote : order' ≡ over found order
+  pub cleared : totals' ≡ over (replicate (C.stops + C.stops) 0) totals
+  pub unmarked : pivots' ≡ over (replicate (C.stops + C.stops) 0) pivots
+
+-- the lengths of lent buffers that a run needs, for n = 2^k stops
+pub record RoomFor (n k order totals pivots : ℕ) : Type 0 where
+  pub small : k ≤ 10
+  pub stops : n ≡ 2 ^ k
+  pub places : n ≤ order
+  pub rows : n + n ≤ totals
+  pub marks : n + n ≤ pivots

@@ -1,14 +1,13 @@
 -- M-107: planning where places cost extra. And what a call answers that gives an order's total alone.
-use Rattle.std.specs.Prelude.{◌≡◌, List, ℕ, ◌*◌, ◌^◌, eqb, length}
+use Rattle.std.specs.Prelude.{List, ℕ, ◌*◌, ◌^◌, eqb, length, Result}
+use Rattle.base.specs.declared.Refusal.{Refusal}
 use Rattle.base.specs.Refusal.{wrong_size}
-use Rattle.base.specs.Outcome.{Outcome, gives, refuses, and_then, need, giving, after}
+use Rattle.base.specs.Outcome.{Outcome, gives, and_then, need, giving}
 use Rattle.base.specs.Buffer.{Unsigned, SharedUnsigned, at_entry, at_exit, contents}
 use Rattle.tree.specs.Total.{entry}
 use Rattle.tree.specs.Wanted.{wanted, every}
 use Rattle.costs.specs.Costs.{placed_total}
-use Rattle.planner.specs.Plan.{Plan, plan_room, cleared}
-use Rattle.planner.specs.declared.Ordered.{Ordered}
-use Rattle.planner.specs.declared.Ordered.TheVariants.{Done, Refused}
+use Rattle.planner.specs.Plan.{Plan, plan_room, PlanIsWritten}
 
 -- whether buffers of these lengths will do: the planner's tests, and 'A second table of another length is 8'
 unfoldable pub places_room : (k table places order totals pivots : ℕ) → Outcome Unit
@@ -26,20 +25,12 @@ placed_plan k table places =
 abbrev pub plan_places : (k : ℕ) (table places : List ℕ) (order totals pivots : ℕ) → Outcome Plan
 plan_places k table places order totals pivots = giving (λ room. placed_plan k table places) (places_room k (length table) (length places) order totals pivots)
 
--- what an answer says: the order's total
-unfoldable pub order_said : Ordered → Outcome ℕ
-order_said (Done t) = gives t
-order_said (Refused n) = refuses n
-
--- the promise of a call that writes the order of an outcome: its answer, the order and the planner's work space before and after
-pub record OrderIsWritten (k : ℕ) (o : Outcome Plan) (order totals pivots order' totals' pivots' : List ℕ) (r : Ordered) : Type 0 where
-  pub said : order_said r ≡ giving (λ p. p.total) o
-  pub wrote : order' ≡ after o (λ p. p.order) order
-  pub cleared_totals : totals' ≡ after o (λ p. cleared k) totals
-  pub cleared_pivots : pivots' ≡ after o (λ p. cleared k) pivots
+-- the promise of a call that writes the order of an outcome, and answers its total
+abbrev pub OrderIsWritten : ℕ → Outcome Plan → (order totals pivots order' totals' pivots' : List ℕ) → Result ℕ Refusal → Type 0
+OrderIsWritten = PlanIsWritten (λ p. p.total)
 
 -- the same of the call's parameters
-abbrev pub PlansPlaces : ℕ → SharedUnsigned → SharedUnsigned → Unsigned → Unsigned → Unsigned → Ordered → Type 0
+abbrev pub PlansPlaces : ℕ → SharedUnsigned → SharedUnsigned → Unsigned → Unsigned → Unsigned → Result ℕ Refusal → Type 0
 PlansPlaces k table places order totals pivots r =
     OrderIsWritten k (plan_places k (contents table) (contents places) (length (at_entry order)) (length (at_entry totals)) (length (at_entry pivots)))
     (at_entry order) (at_entry totals) (at_entry pivots) (at_exit order) (at_exit totals) (at_exit pivots) r

@@ -1,7 +1,8 @@
 -- M-104: round trips. What planning a tour answers, and what the private functions ask and promise.
-use Rattle.std.specs.Prelude.{◌≡◌, List, ℕ, ◌*◌, ◌-◌, ◌^◌, ◌≤◌, ◌<◌, leb, length}
+use Rattle.std.specs.Prelude.{◌≡◌, List, ℕ, ◌+◌, ◌*◌, ◌-◌, ◌^◌, ◌≤◌, ◌<◌, leb, length, replicate, Result}
+use Rattle.base.specs.declared.Refusal.{Refusal}
 use Rattle.base.specs.Refusal.{wrong_k}
-use Rattle.base.specs.Outcome.{Outcome, need, giving}
+use Rattle.base.specs.Outcome.{Outcome, need, giving, over}
 use Rattle.base.specs.Buffer.{Unsigned, SharedUnsigned, at_entry, at_exit, contents}
 use Rattle.walks.specs.Walk.{Graph}
 use Rattle.walks.specs.Rows.{line, Codes}
@@ -13,7 +14,6 @@ use Rattle.costs.specs.Ends.{best_end}
 use Rattle.rows.specs.Row.{unreached}
 use Rattle.planner.specs.Plan.{Plan, plan_room}
 use Rattle.planner.specs.Places.{OrderIsWritten}
-use Rattle.planner.specs.declared.Ordered.{Ordered}
 use Rattle.planner.specs.declared.halve.Choice.{Choice}
 
 -- 'Tours are for k up to 7'
@@ -35,7 +35,7 @@ abbrev pub plan_tour : (k : ℕ) (table : List ℕ) (order totals pivots : ℕ) 
 plan_tour k table order totals pivots = giving (λ room. tour_plan k table) (tour_room k (length table) order totals pivots)
 
 -- the promise, of the call's parameters
-abbrev pub PlansTour : ℕ → SharedUnsigned → Unsigned → Unsigned → Unsigned → Ordered → Type 0
+abbrev pub PlansTour : ℕ → SharedUnsigned → Unsigned → Unsigned → Unsigned → Result ℕ Refusal → Type 0
 PlansTour k table order totals pivots r =
     OrderIsWritten k (plan_tour k (contents table) (length (at_entry order)) (length (at_entry totals)) (length (at_entry pivots)))
     (at_entry order) (at_entry totals) (at_entry pivots) (at_exit order) (at_exit totals) (at_exit pivots) r
@@ -67,3 +67,11 @@ pub record EndHeld (n k : ℕ) (table : List ℕ) (e : ℕ) (held : Choice) : Ty
 pub record TourWritten (n k : ℕ) (table order : List ℕ) (c : ℕ) : Type 0 where
   pub tour : order ≡ wanted k (closed_total (entry n table)) every
   pub total : c ≡ closed_total (entry n table) (wanted k (closed_total (entry n table)) every)
+
+-- what planning a tour leaves: the best tour and its closed total c, and work space that is 0
+pub record LeftByTour (n k : ℕ) (table order totals pivots order' totals' pivots' : List ℕ) (c : ℕ) : Type 0 where
+  pub found : List ℕ
+  pub best : TourWritten n k table found c
+  pub wrote : order' ≡ over found order
+  pub cleared : totals' ≡ over (replicate (n + n) 0) totals
+  pub unmarked : pivots' ≡ over (replicate (n + n) 0) pivots

@@ -1,10 +1,9 @@
 -- M-113: the weighings of a plan, as document 02 counts them, and what k alone foretells.
 use Rattle.std.specs.Prelude.{not, ◌&&◌, cond, List, [], ◌∷◌, ◌++◌, ℕ, zero, suc, ◌+◌, ◌*◌, ◌-◌, ◌^◌, leb, eqb}
 use Rattle.base.specs.Refusal.{wrong_k}
-use Rattle.base.specs.Outcome.{Outcome, gives, refuses, need}
+use Rattle.base.specs.Outcome.{Outcome, gives, need}
 use Rattle.base.specs.Size.{max_k}
 use Rattle.planner.specs.declared.Foretold.{Foretold}
-use Rattle.planner.specs.declared.Foretold.TheVariants.{Takes, Refused}
 
 -- the passes of a plan, each by its m: 2^m places are halved by one pass over them, and then each half is; one place is not halved
 unfoldable pub passes : ℕ → List ℕ
@@ -38,16 +37,6 @@ foretold_weighings (suc (suc j)) = suc j * 2 ^ (2 * suc (suc j))
 unfoldable pub foretold_bytes : ℕ → ℕ
 foretold_bytes k = 20 * 2 ^ k
 
--- what a plan takes
-pub record Needed : Type 0 where
-  pub bytes : ℕ
-  pub weighings : ℕ
-
 -- 'From k alone give ..'; 'k above 10 is 5'
-unfoldable pub foretold : ℕ → Outcome Needed
+unfoldable pub foretold : ℕ → Outcome Foretold
 foretold k = need (leb k max_k) wrong_k (gives (record { bytes = foretold_bytes k; weighings = foretold_weighings k }))
-
--- what an answer says
-unfoldable pub foresaid : Foretold → Outcome Needed
-foresaid (Takes b w) = gives (record { bytes = b; weighings = w })
-foresaid (Refused n) = refuses n

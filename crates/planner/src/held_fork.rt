@@ -1,18 +1,18 @@
 // A fork that is held in a state: how far down in the tree its sides begin.
 
 ghost use Rattle.std.specs.Prelude.{◌≡◌, ◌≤◌, ◌<◌};
-ghost use Rattle.planner.specs.HeldFork.{LevelOf, state_of};
+ghost use Rattle.planner.specs.HeldFork.{LevelOf, HoldsFork};
 
-// The level of a fork of n stops, 2^level of which are on each of its sides; 0 for no fork.
-pub fn level(n: usize, fork: usize) -> u32
-    requires { (n ≤ 1024) × (fork < n) }
-    ensures { (result < 10) × (0 < fork → LevelOf n fork result) }
+use rows::Held;
+
+// The level of a fork of n stops, 2^level of which are on each of its sides.
+fn level(n: usize, fork: usize) -> u32
+    requires { (n ≤ 1024) × (0 < fork) × (fork < n) }
+    ensures { (result < 10) × LevelOf n fork result }
 {
-    if fork == 0 {
-        return 0;
-    }
     let mut level = 0;
     let mut below = 2 * fork;
+    // A number is doubled here; a `for` over the levels would need an answer for a level that is not found, and is no plainer.
     while below < n {
         level += 1;
         below = 2 * below;
@@ -20,9 +20,17 @@ pub fn level(n: usize, fork: usize) -> u32
     level
 }
 
-// The state as a number: 1 for exchanged.
-pub fn state(exchanged: bool) -> usize
-    ensures { result ≡ state_of exchanged }
+// The fork as it is held, and none where its number is 0.
+pub fn held(n: usize, fork: usize, exchanged: bool) -> Option<Held>
+    requires { (n ≤ 1024) × (fork < n) }
+    ensures { HoldsFork n fork exchanged result }
 {
-    if exchanged { 1 } else { 0 }
+    if fork == 0 {
+        return None;
+    }
+    Some(Held {
+        fork,
+        level: level(n, fork),
+        exchanged,
+    })
 }

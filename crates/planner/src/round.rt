@@ -1,12 +1,12 @@
 // Round trips: for each last stop one pass, in which the first stop costs the move that closes the tour; then the places before the best of
 // them are halved.
 
-ghost use Rattle.std.specs.Prelude.{◌≡◌, ◌+◌, ◌*◌, ◌^◌, ◌≤◌, ◌<◌, length, replicate};
-ghost use Rattle.planner.specs.Tour.{TourSizes, EndWeighed, EndHeld, TourWritten};
+ghost use Rattle.std.specs.Prelude.{◌≡◌, ◌+◌, ◌*◌, ◌^◌, ◌≤◌, ◌<◌, length};
+ghost use Rattle.planner.specs.Method.{RoomFor};
+ghost use Rattle.planner.specs.Tour.{TourSizes, EndWeighed, EndHeld, TourWritten, LeftByTour};
 
-use crate::clear::{zero_stops, zero_totals};
 use crate::halve::{Choice, UNREACHED, keep, solve};
-use rows::Costs;
+use rows::ByTable;
 
 // The closed total of the best tour that ends with the stop `last`.
 fn closed_total(
@@ -20,28 +20,12 @@ fn closed_total(
     requires { TourSizes n k (length table.now) × (last < n) × (length totals.old ≡ n + n) × (length pivots.old ≡ n + n) }
     ensures { EndWeighed n k table.now last result }
 {
-    let none = [0u8; 1];
-    let costs = Costs {
+    let costs = ByTable {
         n,
-        by: rows::BY_TABLE,
-        closing: last,
-        version: 0,
-        fork: 0,
-        level: 0,
-        state: 0,
-    };
-    rows::pass(
-        costs,
         table,
-        &table[..0],
-        &none[..0],
-        totals,
-        pivots,
-        0,
-        0,
-        0,
-        k,
-    );
+        closing: Some(last),
+    };
+    rows::pass(costs, totals, pivots, 0, 0, 0, k);
     totals[n + last]
 }
 
@@ -72,31 +56,16 @@ fn best_tour(
     requires { TourSizes n k (length table.now) × (length order.old ≡ n) × (length totals.old ≡ n + n) × (length pivots.old ≡ n + n) }
     ensures { TourWritten n k table.now order.new result }
 {
-    let none = [0u8; 1];
-    zero_stops(order);
+    order.fill(0);
     let held = best_end(n, table, totals, pivots, k);
     let last = held.stop;
     order[n - 1] = last as u16;
-    let costs = Costs {
+    let costs = ByTable {
         n,
-        by: rows::BY_TABLE,
-        closing: last,
-        version: 0,
-        fork: 0,
-        level: 0,
-        state: 0,
-    };
-    solve(
-        costs,
         table,
-        &table[..0],
-        &none[..0],
-        order,
-        totals,
-        pivots,
-        0,
-        k,
-    );
+        closing: Some(last),
+    };
+    solve(costs, order, totals, pivots, 0, k);
     held.total
 }
 
@@ -119,7 +88,7 @@ fn any_tour(
     best_tour(n, table, order, totals, pivots, k)
 }
 
-// The same, with the work space 0 again.
+// The same in the front of lent buffers, with the work space 0 again.
 pub fn whole_tour(
     n: usize,
     table: &[u32],
@@ -128,12 +97,13 @@ pub fn whole_tour(
     pivots: &mut [u16],
     k: u32,
 ) -> u64
-    requires { (k ≤ 10) × (n ≡ 2 ^ k) × (length table.now ≡ n * n) × (length order.old ≡ n) × (length totals.old ≡ n + n) × (length pivots.old ≡ n + n) }
-    ensures tour_written { TourWritten n k table.now order.new result }
-    ensures totals_after { (totals.new ≡ replicate (n + n) 0) × (pivots.new ≡ replicate (n + n) 0) }
+    requires { RoomFor n k (length order.old) (length totals.old) (length pivots.old) × (length table.now ≡ n * n) }
+    ensures { LeftByTour n k table.now order.old totals.old pivots.old order.new totals.new pivots.new result }
 {
-    let total = any_tour(n, table, order, totals, pivots, k);
-    zero_totals(totals);
-    zero_stops(pivots);
+    let totals = &mut totals[..n + n];
+    let pivots = &mut pivots[..n + n];
+    let total = any_tour(n, table, &mut order[..n], totals, pivots, k);
+    totals.fill(0);
+    pivots.fill(0);
     total
 }

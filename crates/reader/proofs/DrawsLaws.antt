@@ -10,11 +10,11 @@ use lib.Dec.{ltb, eqb}
 use lib.ListN.{drop}
 use borrow.Author.Tests.{ltb-true, ltb-false, eqb-true, eqb-false}
 use Rattle.base.specs.Outcome.{Outcome, gives, refuses, number}
+use Rattle.base.proofs.Outcome.{refused}
 use Rattle.path.specs.Path.{PathHead, path_head, read_head, read_stop, read_body, stop_in, stop_place}
 use Rattle.path.specs.Draw.{Draw, drawn, draw_refused, draw_at}
 use Rattle.path.proofs.DrawLaws.{Reached, reach-more, last_of, draw-head, draw-stop, draw-refused, draw-end}
-use Rattle.reader.specs.declared.Step.{Step}
-use Rattle.reader.specs.Draws.{draw_answer, stop_before, draw_of, staying, step_of, step_at, steps_from}
+use Rattle.reader.specs.Draws.{Stepped, is_stop, stop_before, draw_of, staying, step_of, step_at, steps_from}
 use Rattle.reader.proofs.StepLaws.{rest_of, head-again, before-start, before-place, of-stop, of-refused, of_end, last-no-stop, of-drawn, of_other, step-refused, step-head, step_stays}
 
 -- the draw from a cursor is no stop, and leaves the cursor and the version
@@ -29,23 +29,15 @@ data Before (bytes : List ℕ) (highest d at version : ℕ) : Type 0 where
   settled : (x : Draw) → Stuck bytes at version x → ((e : ℕ) → d ≤ e → draw_at bytes highest e ≡ x) → Before bytes highest d at version
 
 -- draw d from such a cursor, and the cursor after it
-record Drew (bytes : List ℕ) (highest d : ℕ) (s : Step) : Type 0 where
-  pub answer : s.drawn ≡ draw_answer (draw_at bytes highest d)
+record Drew (bytes : List ℕ) (highest d : ℕ) (s : Stepped) : Type 0 where
+  pub answer : s.draw ≡ draw_at bytes highest d
   pub next : Before bytes highest (suc d) s.at s.version
-
-refused-no-stop : (m : ℕ) → (draw_answer (draw_refused m)).verdict ≡ 0 → ⊥
-unfolding draw_answer
-refused-no-stop m e = omega arith
-
-stop-verdict : (path i : ℕ) (bytes : List ℕ) → (draw_answer (drawn (stop_in path i bytes))).verdict ≡ 0
-unfolding draw_answer
-stop-verdict path i bytes = refl
 
 -- an answer that was given is given again
 again : (bytes : List ℕ) (highest d at version : ℕ) (x : Draw) → Stuck bytes at version x → ((e : ℕ) → d ≤ e → draw_at bytes highest e ≡ x) → Drew bytes highest d (step_at bytes at version)
 again bytes highest d at version x stuck same =
     let none : d ≤ d = omega arith in
-    rw stuck (record { answer = ap draw_answer (sym (same d none)); next = settled x stuck (λ e h. same e (omega arith)) })
+    rw stuck (record { answer = sym (same d none); next = settled x stuck (λ e h. same e (omega arith)) })
 
 module _ (bytes : List ℕ) (highest d at version path k : ℕ) (first : read_head bytes highest ≡ gives (path_head path k (drop 8 bytes))) (now-head : read_head bytes version ≡ gives (path_head path k (drop 8 bytes))) (here : stop_before path at ≡ d) (reached : Reached path bytes d) where
   step_is : step_at bytes at version ≡ step_of at version path d (draw_of bytes path (2 ^ k) d)
@@ -53,10 +45,10 @@ module _ (bytes : List ℕ) (highest d at version path k : ℕ) (first : read_he
 
   good-stop : d < 2 ^ k → number (read_stop path (drop (stop_place path d) bytes)) ≡ 0 → Drew bytes highest d (step_at bytes at version)
   good-stop h good =
-      let left : step_at bytes at version ≡ record { drawn = draw_answer (drawn (stop_in path d bytes)); at = stop_place path (suc d); version = path } =
-      step_is ∙ ap (step_of at version path d) (of-stop bytes path (2 ^ k) d h _ refl good) ∙ of-drawn at version path d (drawn (stop_in path d bytes)) (stop-verdict path d bytes) in
+      let left : step_at bytes at version ≡ record { draw = drawn (stop_in path d bytes); at = stop_place path (suc d); version = path } =
+      step_is ∙ ap (step_of at version path d) (of-stop bytes path (2 ^ k) d h good) ∙ of-drawn at version path d (drawn (stop_in path d bytes)) refl in
       rw left (record {
-        answer = ap draw_answer (sym (draw-stop bytes highest path k first d h reached good));
+        answer = sym (draw-stop bytes highest path k first d h reached good);
         next = going path k first (head-again bytes highest path k (drop 8 bytes) first) (before-place path (suc d)) h (reach-more path d bytes reached good);
       })
 
@@ -64,7 +56,7 @@ module _ (bytes : List ℕ) (highest d at version path k : ℕ) (first : read_he
   bad-stop h bad =
       let n = number (read_stop path (drop (stop_place path d) bytes)) in
       again bytes highest d at version (draw_refused n)
-      (step_is ∙ ap (step_of at version path d) (of-refused bytes path (2 ^ k) d h n refl bad) ∙ of_other at version path d (draw_refused n) (refused-no-stop n))
+      (step_is ∙ ap (step_of at version path d) (of-refused bytes path (2 ^ k) d h n (refused (read_stop path (drop (stop_place path d) bytes)) n refl bad)) ∙ of_other at version path d (draw_refused n) refl)
       (λ e l. draw-refused bytes highest path k first d e h l reached bad)
 
   at-end : d ≡ 2 ^ k → Drew bytes highest d (step_at bytes at version)
@@ -108,7 +100,7 @@ drew bytes highest (suc d) =
     more bytes highest (suc d) (steps_from bytes 0 highest d).at (steps_from bytes 0 highest d).version (drew bytes highest d).next
 
 -- each draw from the start is the one that the bytes mean
-pub draws-are : (bytes : List ℕ) (highest d : ℕ) → (steps_from bytes 0 highest d).drawn ≡ draw_answer (draw_at bytes highest d)
+pub draws-are : (bytes : List ℕ) (highest d : ℕ) → (steps_from bytes 0 highest d).draw ≡ draw_at bytes highest d
 draws-are bytes highest d = (drew bytes highest d).answer
 
 -- ---- draws from any cursor
@@ -122,19 +114,18 @@ unfolding steps_from
 steps-suc bytes at version d = refl
 
 -- an answer that is no stop is given again by the next draw
-again-step : (bytes : List ℕ) (at version : ℕ) → ((step_at bytes at version).drawn.verdict ≡ 0 → ⊥) → step_at bytes (step_at bytes at version).at (step_at bytes at version).version ≡ step_at bytes at version
-again-step bytes at version f =
-    let same : step_at bytes at version ≡ record { drawn = (step_at bytes at version).drawn; at = at; version = version } = step_stays bytes at version f in
-    ap (λ (s : Step). step_at bytes s.at s.version) same
+again-step : (bytes : List ℕ) (at version : ℕ) → is_stop (step_at bytes at version).draw ≡ false → step_at bytes (step_at bytes at version).at (step_at bytes at version).version ≡ step_at bytes at version
+again-step bytes at version e =
+    ap (λ (s : Stepped). step_at bytes s.at s.version) (step_stays bytes at version e)
 
-again-steps : (bytes : List ℕ) (at version d : ℕ) → ((steps_from bytes at version d).drawn.verdict ≡ 0 → ⊥) → steps_from bytes at version (suc d) ≡ steps_from bytes at version d
+again-steps : (bytes : List ℕ) (at version d : ℕ) → is_stop (steps_from bytes at version d).draw ≡ false → steps_from bytes at version (suc d) ≡ steps_from bytes at version d
 unfolding steps_from
-again-steps bytes at version zero f = again-step bytes at version f
-again-steps bytes at version (suc d) f = again-step bytes (steps_from bytes at version d).at (steps_from bytes at version d).version f
+again-steps bytes at version zero e = again-step bytes at version e
+again-steps bytes at version (suc d) e = again-step bytes (steps_from bytes at version d).at (steps_from bytes at version d).version e
 
 -- 'later draws repeat it', from any cursor and with any version
-pub draws-repeat : (bytes : List ℕ) (at version d : ℕ) → ((steps_from bytes at version d).drawn.verdict ≡ 0 → ⊥) → (e : ℕ) → steps_from bytes at version (d + e) ≡ steps_from bytes at version d
+pub draws-repeat : (bytes : List ℕ) (at version d : ℕ) → is_stop (steps_from bytes at version d).draw ≡ false → (e : ℕ) → steps_from bytes at version (d + e) ≡ steps_from bytes at version d
 draws-repeat bytes at version d f zero = rw add-zero
 draws-repeat bytes at version d f (suc e) =
     let before : steps_from bytes at version (d + e) ≡ steps_from bytes at version d = draws-repeat bytes at version d f e in
-    rw add-suc (again-steps bytes at version (d + e) (λ z. f (rw before at z)) ∙ before)
+    rw add-suc (again-steps bytes at version (d + e) (rw before f) ∙ before)

@@ -1,6 +1,6 @@
 -- Laws of one draw: which part of the definition decides, and where it leaves the cursor.
 use mathlib.Core.Path.{◌≡◌, refl, sym, ap, ◌∙◌}
-use mathlib.Core.Bool.{Bool, true, false}
+use mathlib.Core.Bool.{Bool, true, false, true≢false}
 use mathlib.Core.List.{List, []}
 use Prim.Native.Nat.{ℕ, zero, suc, ◌+◌, ◌-◌, ◌*◌, ◌^◌, ◌≤◌, ◌<◌}
 use native.Mathlib.Nat.{zero-div, mul-div_cancel}
@@ -10,7 +10,7 @@ use lib.ListN.{length, drop}
 use borrow.Author.Tests.{ltb-true, ltb-false, lt-ltb, le-ltb}
 use Rattle.base.specs.Refusal.{trailing_bytes}
 use Rattle.base.specs.Outcome.{Outcome, gives, refuses, need, and_then, number}
-use Rattle.base.proofs.Outcome.{refused, number-first}
+use Rattle.base.proofs.Outcome.{number-first}
 use Rattle.records.specs.Record.{take_record, record_length}
 use Rattle.records.proofs.LengthLaws.{path-length}
 use Rattle.records.proofs.RecordLaws.{by-taken}
@@ -23,7 +23,7 @@ use Rattle.path.proofs.HeadLaws.{Seen, good-head, bad-head, head-seen, fields-go
 use Rattle.path.proofs.Inverse.{opened_of}
 use Rattle.path.proofs.PlaceLaws.{size-range, place_is}
 use Rattle.path.proofs.StopLaws.{stop-judged, stop-present, stop-range, in_place}
-use Rattle.reader.specs.Draws.{draw_answer, stop_before, stop_draw, draw_of, staying, step_of, step_in, step_at}
+use Rattle.reader.specs.Draws.{is_stop, stop_before, stop_draw, draw_of, staying, step_of, step_in, step_at}
 
 -- ---- an accepted head
 
@@ -103,59 +103,60 @@ end-draw version s =
     pick false = refl
 
 module _ (bytes : List ℕ) (version n i : ℕ) where
-  pub of-stop : i < n → (r : ℕ) → r ≡ number (read_stop version (drop (stop_place version i) bytes)) → r ≡ 0 → draw_of bytes version n i ≡ drawn (stop_in version i bytes)
+  pub of-stop : i < n → number (read_stop version (drop (stop_place version i) bytes)) ≡ 0 → draw_of bytes version n i ≡ drawn (stop_in version i bytes)
   unfolding draw_of stop_draw
-  of-stop h r e z = rw (lt-ltb _ _ h, stop-read version i bytes (sym e ∙ z))
+  of-stop h z = rw (lt-ltb _ _ h, stop-read version i bytes z)
 
-  pub of-refused : i < n → (r : ℕ) → r ≡ number (read_stop version (drop (stop_place version i) bytes)) → (r ≡ 0 → ⊥) → draw_of bytes version n i ≡ draw_refused r
+  pub of-refused : i < n → (r : ℕ) → read_stop version (drop (stop_place version i) bytes) ≡ refuses r → draw_of bytes version n i ≡ draw_refused r
   unfolding draw_of stop_draw
-  of-refused h r e f = rw (lt-ltb _ _ h, refused (read_stop version (drop (stop_place version i) bytes)) r e f)
+  of-refused h r e = rw (lt-ltb _ _ h, e)
 
   pub of_end : n ≤ i → draw_of bytes version n i ≡ last_of (number (read_body version 0 (drop (stop_place version n) bytes)))
   unfolding draw_of
   of_end h = rw (le-ltb _ _ h) (end-draw version (drop (stop_place version n) bytes))
 
-  pub of-ended : n ≤ i → (r : ℕ) → r ≡ number (read_body version 0 (drop (stop_place version n) bytes)) → r ≡ 0 → draw_of bytes version n i ≡ ended
+  pub of-ended : n ≤ i → number (read_body version 0 (drop (stop_place version n) bytes)) ≡ 0 → draw_of bytes version n i ≡ ended
   unfolding last_of
-  of-ended h r e z = of_end h ∙ ap last_of (sym e ∙ z)
+  of-ended h z = of_end h ∙ ap last_of z
 
-  pub of-no-end : n ≤ i → (r : ℕ) → r ≡ number (read_body version 0 (drop (stop_place version n) bytes)) → (r ≡ 0 → ⊥) → draw_of bytes version n i ≡ draw_refused r
-  of-no-end h r e f = of_end h ∙ ap last_of (sym e) ∙ sym (refusal-last r f)
+  pub of-no-end : n ≤ i → (r : ℕ) → read_body version 0 (drop (stop_place version n) bytes) ≡ refuses r → draw_of bytes version n i ≡ draw_refused r
+  unfolding draw_of last_draw
+  of-no-end h r e = rw (le-ltb _ _ h, e)
 
 -- the end is no stop, nor is a refusal
-pub last-no-stop : (m : ℕ) → (draw_answer (last_of m)).verdict ≡ 0 → ⊥
-unfolding last_of draw_answer
-last-no-stop zero e = omega arith
-last-no-stop (suc m) e = omega arith
+pub last-no-stop : (m : ℕ) → is_stop (last_of m) ≡ false
+unfolding last_of
+last-no-stop zero = refl
+last-no-stop (suc m) = refl
 
 -- only a stop below n is drawn
-pub drawn-below : (bytes : List ℕ) (version n i : ℕ) → (draw_answer (draw_of bytes version n i)).verdict ≡ 0 → i < n
+pub drawn-below : (bytes : List ℕ) (version n i : ℕ) → is_stop (draw_of bytes version n i) ≡ true → i < n
 drawn-below bytes version n i e = pick (ltb i n) refl
   where
     pick : (b : Bool) → ltb i n ≡ b → i < n
     pick true t = ltb-true _ _ t
-    pick false t = absurd (last-no-stop _ (rw (of_end bytes version n i (ltb-false _ _ t)) at e))
+    pick false t = absurd (true≢false (sym e ∙ ap is_stop (of_end bytes version n i (ltb-false _ _ t)) ∙ last-no-stop _))
 
 -- ---- what a draw leaves
 
 module _ (at version path i : ℕ) where
-  pub of-drawn : (d : Draw) → (draw_answer d).verdict ≡ 0 → step_of at version path i d ≡ record { drawn = draw_answer d; at = stop_place path (suc i); version = path }
-  unfolding step_of draw_answer
+  pub of-drawn : (d : Draw) → is_stop d ≡ true → step_of at version path i d ≡ record { draw = d; at = stop_place path (suc i); version = path }
+  unfolding step_of
   of-drawn (drawn s) e = refl
-  of-drawn ended e = absurd (omega arith)
-  of-drawn (draw_refused n) e = absurd (omega arith)
+  of-drawn ended e = absurd (true≢false (sym e))
+  of-drawn (draw_refused n) e = absurd (true≢false (sym e))
 
-  pub of_other : (d : Draw) → ((draw_answer d).verdict ≡ 0 → ⊥) → step_of at version path i d ≡ staying at version d
-  unfolding step_of draw_answer
-  of_other (drawn s) f = absurd (f refl)
-  of_other ended f = refl
-  of_other (draw_refused n) f = refl
+  pub of_other : (d : Draw) → is_stop d ≡ false → step_of at version path i d ≡ staying at version d
+  unfolding step_of
+  of_other (drawn s) e = absurd (true≢false e)
+  of_other ended e = refl
+  of_other (draw_refused n) e = refl
 
-  stay_of : (d : Draw) → ((step_of at version path i d).drawn.verdict ≡ 0 → ⊥) → step_of at version path i d ≡ record { drawn = (step_of at version path i d).drawn; at = at; version = version }
-  unfolding step_of draw_answer
-  stay_of (drawn s) f = absurd (f refl)
-  stay_of ended f = refl
-  stay_of (draw_refused n) f = refl
+  stay_of : (d : Draw) → is_stop (step_of at version path i d).draw ≡ false → step_of at version path i d ≡ staying at version (step_of at version path i d).draw
+  unfolding step_of
+  stay_of (drawn s) e = absurd (true≢false e)
+  stay_of ended e = refl
+  stay_of (draw_refused n) e = refl
 
 module _ (bytes : List ℕ) (at version : ℕ) where
   pub step-refused : (n : ℕ) → read_head bytes version ≡ refuses n → step_at bytes at version ≡ staying at version (draw_refused n)
@@ -167,10 +168,10 @@ module _ (bytes : List ℕ) (at version : ℕ) where
   step-head path k rest e = rw e
 
   -- an answer that is no stop leaves the cursor and the version
-  pub step_stays : ((step_at bytes at version).drawn.verdict ≡ 0 → ⊥) → step_at bytes at version ≡ record { drawn = (step_at bytes at version).drawn; at = at; version = version }
+  pub step_stays : is_stop (step_at bytes at version).draw ≡ false → step_at bytes at version ≡ staying at version (step_at bytes at version).draw
   unfolding step_at step_in
   step_stays = pick (read_head bytes version)
     where
-      pick : (h : Outcome PathHead) → ((step_in bytes at version h).drawn.verdict ≡ 0 → ⊥) → step_in bytes at version h ≡ record { drawn = (step_in bytes at version h).drawn; at = at; version = version }
-      pick (gives h) f = stay_of at version h.version (stop_before h.version at) (draw_of bytes h.version (2 ^ h.k) (stop_before h.version at)) f
-      pick (refuses n) f = refl
+      pick : (h : Outcome PathHead) → is_stop (step_in bytes at version h).draw ≡ false → step_in bytes at version h ≡ staying at version (step_in bytes at version h).draw
+      pick (gives h) e = stay_of at version h.version (stop_before h.version at) (draw_of bytes h.version (2 ^ h.k) (stop_before h.version at)) e
+      pick (refuses n) e = refl

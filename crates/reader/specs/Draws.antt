@@ -1,19 +1,37 @@
 -- One draw from a cursor in the bytes of a path, and draws one after another: 'each stop before the end or before the first refused record,
 -- then the end or the refusal that a whole reading with long enough buffers gives; later draws repeat it'.
-use Rattle.std.specs.Prelude.{◌≡◌, cond, List, ℕ, zero, suc, ◌-◌, ◌/◌, ◌^◌, ltb, drop}
+use Rattle.std.specs.Prelude.{◌≡◌, Bool, true, false, cond, List, ℕ, zero, suc, ◌-◌, ◌/◌, ◌^◌, ltb, drop, Option, Some, None, Result, Ok, Err}
 use Rattle.std.specs.Borrow.{Bor}
-use Rattle.base.specs.Refusal.{accepted}
+use Rattle.base.specs.declared.Refusal.{Refusal}
+use Rattle.base.specs.Refusal.{accepted, refusal_number}
 use Rattle.base.specs.Outcome.{Outcome, gives, refuses}
 use Rattle.base.specs.Buffer.{Lent, at_entry, at_exit}
 use Rattle.stop.specs.declared.Stop.{Stop}
 use Rattle.stop.specs.Stop.{zero_stop}
 use Rattle.path.specs.Path.{PathHead, read_head, read_stop, read_body, stop_place, stop_size}
 use Rattle.path.specs.Draw.{Draw, drawn, ended, draw_refused, last_draw}
-use Rattle.reader.specs.declared.Drawn.{Drawn}
 use Rattle.reader.specs.declared.Step.{Step}
 use Rattle.reader.specs.declared.Reader.{Reader}
 
--- the verdicts of an answer
+-- what a draw answers: a stop, the end where there is none, or the number of a refusal
+abbrev pub answered : Result (Option Stop) Refusal → Draw
+answered (Ok (Some s)) = drawn s
+answered (Ok None) = ended
+answered (Err r) = draw_refused (refusal_number r)
+
+-- whether it is a stop
+abbrev pub is_stop : Draw → Bool
+is_stop (drawn s) = true
+is_stop ended = false
+is_stop (draw_refused n) = false
+
+-- the same for a caller that takes numbers: a verdict, the refusal's number and the stop
+pub record Drawn : Type 0 where
+  pub verdict : ℕ
+  pub number : ℕ
+  pub stop : Stop
+
+-- the verdicts
 abbrev pub a_stop : ℕ
 a_stop = 0
 
@@ -45,29 +63,38 @@ draw_of bytes version n i =
     (stop_draw (read_stop version (drop (stop_place version i) bytes)))
     (last_draw (read_body version zero (drop (stop_place version n) bytes)))
 
+-- what a draw leaves: its answer, and the cursor and the version for the next draw
+pub record Stepped : Type 0 where
+  pub draw : Draw
+  pub at : ℕ
+  pub version : ℕ
+
+abbrev pub stepped : Step → Stepped
+stepped s = record { draw = answered s.drawn; at = s.at; version = s.version }
+
 -- the end and a refusal leave the cursor and the version as they are
-abbrev pub staying : (at version : ℕ) → Draw → Step
-staying at version d = record { drawn = draw_answer d; at = at; version = version }
+abbrev pub staying : (at version : ℕ) → Draw → Stepped
+staying at version d = record { draw = d; at = at; version = version }
 
 -- after stop i the cursor is where the next record begins, and the version is the path's
-unfoldable pub step_of : (at version path i : ℕ) → Draw → Step
-step_of at version path i (drawn s) = record { drawn = draw_answer (drawn s); at = stop_place path (suc i); version = path }
+unfoldable pub step_of : (at version path i : ℕ) → Draw → Stepped
+step_of at version path i (drawn s) = record { draw = drawn s; at = stop_place path (suc i); version = path }
 step_of at version path i ended = staying at version ended
 step_of at version path i (draw_refused n) = staying at version (draw_refused n)
 
 -- the head decides first
-unfoldable pub step_in : (bytes : List ℕ) (at version : ℕ) → Outcome PathHead → Step
+unfoldable pub step_in : (bytes : List ℕ) (at version : ℕ) → Outcome PathHead → Stepped
 step_in bytes at version (gives h) =
     let i = stop_before h.version at in
     step_of at version h.version i (draw_of bytes h.version (2 ^ h.k) i)
 step_in bytes at version (refuses n) = staying at version (draw_refused n)
 
 -- one draw from a cursor by a reader that knows versions up to this one, whatever the cursor, the version and the bytes are
-unfoldable pub step_at : (bytes : List ℕ) (at version : ℕ) → Step
+unfoldable pub step_at : (bytes : List ℕ) (at version : ℕ) → Stepped
 step_at bytes at version = step_in bytes at version (read_head bytes version)
 
 -- draw d, counted from 0, of the draws that begin at a cursor
-unfoldable pub steps_from : (bytes : List ℕ) (at version d : ℕ) → Step
+unfoldable pub steps_from : (bytes : List ℕ) (at version d : ℕ) → Stepped
 steps_from bytes at version zero = step_at bytes at version
 steps_from bytes at version (suc d) =
     let before = steps_from bytes at version d in
@@ -80,16 +107,16 @@ abbrev pub opened : (bytes : Bor (List ℕ)) (highest : ℕ) → Reader
 opened bytes highest = record { src = bytes; at = 0; version = highest }
 
 -- its next draw
-abbrev pub next_step : Reader → Step
+abbrev pub next_step : Reader → Stepped
 next_step r = step_at r.src.now r.at r.version
 
 -- and the reader after a draw: the same bytes, with the cursor and the version that the draw left
-abbrev pub moved : Reader → Step → Reader
+abbrev pub moved : Reader → Stepped → Reader
 moved r s = record { src = r.src; at = s.at; version = s.version }
 
 -- the promise of a draw: its answer, and the reader before and after
-abbrev pub DrawsNext : Lent Reader → Drawn → Type 0
-DrawsNext r d = (d ≡ (next_step (at_entry r)).drawn) × (at_exit r ≡ moved (at_entry r) (next_step (at_entry r)))
+abbrev pub DrawsNext : Lent Reader → Result (Option Stop) Refusal → Type 0
+DrawsNext r d = (answered d ≡ (next_step (at_entry r)).draw) × (at_exit r ≡ moved (at_entry r) (next_step (at_entry r)))
 
 -- the reader after d draws
 unfoldable pub after_draws : Reader → (d : ℕ) → Reader

@@ -5,5 +5,5 @@ pub mod LengthLaws
 pub mod PutLaws
 pub mod RecordLaws
 pub mod Numbers
-mod SignedLaws
+pub mod ByteLaws
 mod Table

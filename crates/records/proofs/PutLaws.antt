@@ -1,7 +1,7 @@
 -- Laws of bytes put into a buffer: one after the other is both at once.
 use mathlib.Core.Path.{◌≡◌, refl, sym, ap, ◌∙◌}
 use mathlib.Core.List.{List, [], ◌++◌, append_assoc, append-nil}
-use Prim.Native.Nat.{ℕ, ◌+◌, ◌/◌, ◌%◌, ◌^◌, ◌≤◌, ◌<◌}
+use Prim.Native.Nat.{ℕ, ◌+◌, ◌≤◌, ◌<◌}
 use native.Mathlib.Nat.{zero-add, add-zero, add_assoc}
 use native.Mathlib.Omega.{arith}
 use lib.ListN.{length, take, drop, length-append, length-drop, take-append-drop}
@@ -9,9 +9,7 @@ use lib.Seq.{length-take-le, take_at, drop-drop, drop-append-add}
 use lib.Dec.{leb}
 use mathlib.Core.Bool.{Bool, true, false, cond}
 use borrow.Author.Tests.{le-leb, lt-leb, leb-true}
-use Rattle.records.specs.Field.{bytes_of}
 use Rattle.records.specs.Put.{put}
-use Rattle.records.proofs.FieldLaws.{length-bytes_of, bytes_of_mod, bytes_of-parts}
 
 pub put-fits : (s : List ℕ) (at : ℕ) (v : List ℕ) → at + length v ≤ length s → put s at v ≡ take at s ++ v ++ drop (at + length v) s
 unfolding put
@@ -58,16 +56,6 @@ length-put s at v = pick (leb (at + length v) (length s)) refl
 -- what is put at the front
 pub put_front : (s v : List ℕ) → length v ≤ length s → put s 0 v ≡ v ++ drop (length v) s
 put_front s v h = put-fits s 0 v (rw zero-add h) ∙ rw zero-add
-
--- a field is put in two halves: the low one, then the high one beside it
-pub two-parts : (w : ℕ) (s : List ℕ) (at x : ℕ) (t u : List ℕ) → at + (w + w) ≤ length s → t ≡ put s at (bytes_of w (x % 256 ^ w)) → u ≡ put t (at + w) (bytes_of w (x / 256 ^ w)) → u ≡ put s at (bytes_of (w + w) x)
-two-parts w s at x t u fits first second =
-    let low : length (bytes_of w x) ≡ w = length-bytes_of w x in
-    let high : length (bytes_of w (x / 256 ^ w)) ≡ w = length-bytes_of w (x / 256 ^ w) in
-    let joined : put (put s at (bytes_of w x)) (at + length (bytes_of w x)) (bytes_of w (x / 256 ^ w)) ≡ put s at (bytes_of w x ++ bytes_of w (x / 256 ^ w)) =
-    put-put s at (bytes_of w x) (bytes_of w (x / 256 ^ w)) (omega arith) in
-    second
-    ∙ rw (first, bytes_of_mod, bytes_of-parts) (rw low at joined)
 
 -- two puts side by side, and three, from the places that they were made at
 pub put_two : (s : List ℕ) (at : ℕ) (v w t u : List ℕ) (i : ℕ) → at + (length v + length w) ≤ length s → i ≡ at + length v → t ≡ put s at v → u ≡ put t i w → u ≡ put s at (v ++ w)

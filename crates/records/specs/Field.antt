@@ -1,10 +1,15 @@
 -- Fields: 'All fields are little-endian; coordinates are two's complement.'
-use Rattle.std.specs.Prelude.{Bool, true, cond, ◌&&◌, List, [], ◌∷◌, ◌++◌, ℕ, zero, suc, ◌+◌, ◌-◌, ◌*◌, ◌/◌, ◌%◌, ◌^◌, ltb, take, drop, ℤ, pos, negsuc}
+use Rattle.std.specs.Prelude.{Bool, true, cond, ◌&&◌, List, [], ◌∷◌, ◌++◌, ℕ, zero, suc, ◌+◌, ◌-◌, ◌*◌, ◌/◌, ◌%◌, ◌^◌, ltb, take, drop, get_or, ℤ, pos, negsuc}
+use Rattle.base.specs.Lists.{tabulate}
 
 -- the number that bytes spell, least byte first
 unfoldable pub number_of : List ℕ → ℕ
 number_of [] = 0
 number_of (b ∷ s) = b + 256 * number_of s
+
+-- the first bytes, so many: one that is not there counts as 0
+abbrev pub first_bytes : (width : ℕ) (s : List ℕ) → List ℕ
+first_bytes width s = tabulate width (λ i. get_or s i 0)
 
 -- the bytes of a field of some width that holds a number, least byte first
 unfoldable pub bytes_of : (width value : ℕ) → List ℕ

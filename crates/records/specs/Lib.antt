@@ -2,3 +2,4 @@
 pub mod Field
 pub mod Put
 pub mod Record
+pub mod Kind

@@ -8,7 +8,4 @@ mod field;
 mod record;
 
 pub use field::{after, field16, field64, put_pair, put_signed, put16, put64, to_signed};
-pub use record::{
-    BLEND_SINCE, DWELL_SINCE, END, FORKS, ORDER, PATH, REFUSED, STOP, STOPS, judge_record,
-    record_length,
-};
+pub use record::{BLEND_SINCE, DWELL_SINCE, Kind, judge_record, record_length};

@@ -1,25 +1,50 @@
 // The kinds of record, their lengths, and what stands at a place of some bytes.
 ghost use Rattle.std.specs.Prelude.{◌≡◌, drop};
-ghost use Rattle.base.specs.Outcome.{number};
-ghost use Rattle.records.specs.Record.{record_length, is_due, take_record};
+ghost use Rattle.base.specs.Outcome.{said, done};
+ghost use Rattle.records.specs.Kind.{Names, kind_number};
+ghost use Rattle.records.specs.Record.{record_length, take_record};
 
 use crate::field::{after, field16};
-use base::{TRUNCATED, WRONG_KIND, WRONG_LENGTH};
+use base::Refusal;
 
-// The kinds.
-pub const PATH: u16 = 1;
+// The kinds, each with its number.
+#[derive(Clone, Copy, Debug, PartialEq, Eq)]
+pub enum Kind {
+    // The head of a path.
+    Path = 1,
+    // A stop of it.
+    Stop = 2,
+    // The end of a path or an order file.
+    End = 3,
+    // The head of an order file.
+    Order = 4,
+    // Its total and stops.
+    Stops = 5,
+    // Its fork bits.
+    Forks = 6,
+    // What the program writes for a refusal.
+    Refused = 7,
+}
 
-pub const STOP: u16 = 2;
+// The kind of a number. Unknown numbers are no kind at all.
+impl TryFrom<u16> for Kind {
+    type Error = Refusal;
 
-pub const END: u16 = 3;
+    ghost try_from_gives = { Names };
 
-pub const ORDER: u16 = 4;
-
-pub const STOPS: u16 = 5;
-
-pub const FORKS: u16 = 6;
-
-pub const REFUSED: u16 = 7;
+    fn try_from(number: u16) -> Result<Self, Refusal> {
+        match number {
+            1 => Ok(Kind::Path),
+            2 => Ok(Kind::Stop),
+            3 => Ok(Kind::End),
+            4 => Ok(Kind::Order),
+            5 => Ok(Kind::Stops),
+            6 => Ok(Kind::Forks),
+            7 => Ok(Kind::Refused),
+            0 | 8..=65535 => Err(Refusal::WrongKind),
+        }
+    }
+}
 
 // The first version whose stops have a blend.
 pub const BLEND_SINCE: u16 = 5;
@@ -27,9 +52,8 @@ pub const BLEND_SINCE: u16 = 5;
 // The first version whose stops have a dwell.
 pub const DWELL_SINCE: u16 = 6;
 
-// The lengths that records say, without the part for n of kinds 5 and 6: a row for each kind from 0 on, which is none, with versions 4, 5 and 6.
-const LENGTHS: [[usize; 3]; 8] = [
-    [0, 0, 0],
+// The lengths that records say, without the part for n of kinds 5 and 6: a row for each kind, with versions 4, 5 and 6.
+const LENGTHS: [[usize; 3]; 7] = [
     [6, 6, 6],
     [16, 18, 20],
     [2, 2, 2],
@@ -39,56 +63,57 @@ const LENGTHS: [[usize; 3]; 8] = [
     [4, 4, 4],
 ];
 
-// The length that a record of a kind and version says, without the part for n of kinds 5 and 6; 0 for no kind. A column of the table has the lengths of the versions
-// with as many of a stop's later fields, blend and dwell.
+impl Kind {
+    // Its number.
+    pub fn number(self) -> u16
+        ensures { result ≡ kind_number self }
+    {
+        self as u16
+    }
+
+    // The length that a record of this kind and a version says, without the part for n of kinds 5 and 6. A column of the table has the lengths
+    // of the versions with as many of a stop's later fields, blend and dwell.
+    pub fn length(self, version: u16) -> usize
+        ensures { result ≡ record_length (kind_number self) version 0 }
+    {
+        let column = if version < BLEND_SINCE {
+            0
+        } else if version < DWELL_SINCE {
+            1
+        } else {
+            2
+        };
+        LENGTHS[self as usize - 1][column]
+    }
+}
+
+// The same of a number; 0 for no kind.
 pub fn record_length(kind: u16, version: u16) -> usize
     ensures { result ≡ record_length kind version 0 }
 {
-    if 7 < kind {
-        return 0;
-    }
-    let row = kind as usize;
-    if version < BLEND_SINCE {
-        return LENGTHS[row][0];
-    }
-    if version < DWELL_SINCE {
-        return LENGTHS[row][1];
-    }
-    LENGTHS[row][2]
-}
-
-// Whether a kind that was found is the one due. Unknown numbers are no kind at all.
-fn is_due(due: u16, found: u16) -> bool
-    ensures { result ≡ is_due due found }
-{
-    match found {
-        1 => due == PATH,
-        2 => due == STOP,
-        3 => due == END,
-        4 => due == ORDER,
-        5 => due == STOPS,
-        6 => due == FORKS,
-        7 => due == REFUSED,
-        0 | 8..=65535 => false,
+    match Kind::try_from(kind) {
+        Ok(known) => known.length(version),
+        Err(_) => 0,
     }
 }
 
-// 0 where a record of a kind and length stands at `at`, and otherwise the refusal's number.
-pub fn judge_record(s: &[u8], at: usize, kind: u16, long: usize) -> u16
-    ensures { result ≡ number (take_record kind long (drop at s.now)) }
+// Whether a record of a kind and length stands at `at`, or the refusal.
+#[tactic(auto, unfolding(crate::specs::Record::take_record, crate::specs::Record::is_due, crate::specs::Record::is_kind, crate::specs::Record::kind_said, crate::specs::Record::length_said))]
+pub fn judge_record(s: &[u8], at: usize, kind: u16, long: usize) -> Result<(), Refusal>
+    ensures { said result ≡ done (take_record kind long (drop at s.now)) }
 {
     let t = after(s, at);
     if t.len() < 4 {
-        return TRUNCATED;
+        return Err(Refusal::Truncated);
     }
-    if !is_due(kind, field16(t, 2)) {
-        return WRONG_KIND;
+    if Kind::try_from(field16(t, 2))?.number() != kind {
+        return Err(Refusal::WrongKind);
     }
     if (field16(t, 0) as usize) != long {
-        return WRONG_LENGTH;
+        return Err(Refusal::WrongLength);
     }
     if t.len() - 2 < long {
-        return TRUNCATED;
+        return Err(Refusal::Truncated);
     }
-    0
+    Ok(())
 }

@@ -22,12 +22,12 @@ use Rattle.rows.proofs.Stores.{row-four}
 
 -- what is held for the stops `to` to `to` + 3 in place p once their candidates below j are weighed, where the row of the place before stands at
 -- `off` of B and P
-pub record Columns (C : Costing) (p t : ℕ) (early : Bool) (to off j : ℕ) (B P : List ℕ) (held : Four) : Type 0 where
+pub record Columns (C : Costing) (p t : ℕ) (early : Bool) (to off j : ℕ) (B P : List ℕ) (held : Four Way) : Type 0 where
   pub counts : InFour (λ i w. w.count ≡ j - beside_of to t) to held
   pub best : (r : ℕ → Found ℕ) → Row p r off (beside_of to t) (2 ^ t) B P → InFour (BestBelow C p (read_as early r) j) to held
 
 -- few were weighed
-pub columns-few : {C : Costing} {p t to off j : ℕ} {early : Bool} {B P : List ℕ} {held : Four} → j < 4294967296 → Columns C p t early to off j B P held → EachFour (λ w. w.count < 4294967296) held
+pub columns-few : {C : Costing} {p t to off j : ℕ} {early : Bool} {B P : List ℕ} {held : Four Way} → j < 4294967296 → Columns C p t early to off j B P held → EachFour (λ w. w.count < 4294967296) held
 columns-few h k = record {
   a = omega (arith, k.counts.a);
   b = omega (arith, k.counts.b);
@@ -60,7 +60,7 @@ module _ (C : Costing) (p t : ℕ) (early : Bool) (to off : ℕ) (B P : List ℕ
       none r i a b = subst (λ x. BestBelow C p (read_as early r) x i w) (same i a b ∙ sym f) (below-first C p (read_as early r) i w h.0)
 
   -- one candidate more
-  pub columns-more : {w u : Four} (j : ℕ) (before : Way) → p < 1024 → beside_of to t ≤ j → j < beside_of to t + 2 ^ t → Loaded early B P (off + j) j before
+  pub columns-more : {w u : Four Way} (j : ℕ) (before : Way) → p < 1024 → beside_of to t ≤ j → j < beside_of to t + 2 ^ t → Loaded early B P (off + j) j before
       → Columns C p t early to off j B P w → ByFour (Weighed (C.weight p) j before) to w u → Columns C p t early to off (j + 1) B P u
   columns-more {w} {u} j before small a b l h z = record {
     counts = record {
@@ -77,7 +77,7 @@ module _ (C : Costing) (p t : ℕ) (early : Bool) (to off : ℕ) (B P : List ℕ
       size = ap (λ x. 2 ^ x) (sym e)
 
   -- all of them
-  pub columns-all : {w u : Four} (j : ℕ) → j ≡ beside_of to t + 2 ^ t → j ≤ C.stops → Columns C p t early to off j B P w → ByFour (Settled C p early) to w u
+  pub columns-all : {w u : Four Way} (j : ℕ) → j ≡ beside_of to t + 2 ^ t → j ≤ C.stops → Columns C p t early to off j B P w → ByFour (Settled C p early) to w u
       → InFour (λ i x. x.count ≡ 2 ^ t) to u × ((r : ℕ → Found ℕ) → Row p r off (beside_of to t) (2 ^ t) B P → InFour (Leads (p + 1) (next C p early r)) to u)
   columns-all {w} {u} j d b h o = (
     record {
@@ -94,7 +94,7 @@ module _ (C : Costing) (p t : ℕ) (early : Bool) (to off : ℕ) (B P : List ℕ
       last i m n = let size : 2 ^ trail p ≡ 2 ^ t = ap (λ x. 2 ^ x) (sym e) in omega (arith, same i m n)
 
 -- the four stops in the even row
-pub four-made : {p p' k off start part to r : ℕ} {f : (ℕ → Found ℕ) → ℕ → Found ℕ} {w : Four} {B P B' P' : List ℕ} → InFour (λ i x. x.count ≡ k) to w
+pub four-made : {p p' k off start part to r : ℕ} {f : (ℕ → Found ℕ) → ℕ → Found ℕ} {w : Four Way} {B P B' P' : List ℕ} → InFour (λ i x. x.count ≡ k) to w
     → ((row : ℕ → Found ℕ) → Row p row off start part B P → InFour (Leads p' (f row)) to w) → r ≡ w.a.count + w.b.count + w.c.count + w.d.count
     → InFour (Written B' P') to w → Kept to 4 B B' × Kept to 4 P P' → RowMade p p' f off start part 0 to 4 (4 * k) B P B' P' r
 four-made {to = to} n g s l k = record {

@@ -8,7 +8,7 @@ use native.Mathlib.Omega.{arith}
 use Rattle.walks.specs.Best.{Found}
 use Rattle.rows.specs.Row.{Row, SomeRow, Kept}
 use Rattle.rows.specs.Way.{RowMade}
-use Rattle.rows.proofs.Stores.{kept-none, kept_more, row-part, row-join, row_kept}
+use Rattle.rows.proofs.Stores.{kept_more, row-part, row-join, row_kept}
 
 -- the two rows stand apart
 abbrev pub Apart : (old new base size : ℕ) → Type 0
@@ -25,17 +25,6 @@ pub record Made (p p' : ℕ) (f : (ℕ → Found ℕ) → ℕ → Found ℕ) (ol
   pub made : (r : ℕ → Found ℕ) → Row p r old base size B P → Row p' (f r) new base (i - base) B' P'
 
 module _ {p p' : ℕ} {f : (ℕ → Found ℕ) → ℕ → Found ℕ} {old new base size each : ℕ} {B P : List ℕ} where
-  -- no stop is made yet
-  pub made_none : Made p p' f old new base size each base B P B P 0
-  made_none = record {
-    low = omega arith;
-    high = omega arith;
-    counted = let e : base - base ≡ 0 = omega arith in rw e (omega arith);
-    totals-kept = kept-none;
-    pivots-kept = kept-none;
-    made = λ r l. record { holds = λ i x y. absurd (omega arith) };
-  }
-
   -- the old row is as it was
   made-old : {i start part count : ℕ} {B' P' : List ℕ} {r : ℕ → Found ℕ} → Apart old new base size → base ≤ start → start + part ≤ base + size
       → Made p p' f old new base size each i B P B' P' count → Row p r old base size B P → Row p r old start part B' P'

@@ -1,6 +1,6 @@
 -- Two stops led through the second and last of two places, each from the other.
 use mathlib.Core.Path.{◌≡◌, refl}
-use mathlib.Core.Bool.{Bool, false}
+use mathlib.Core.Bool.{false}
 use mathlib.Core.List.{List}
 use mathlib.Core.Logic.{inl}
 use Prim.Native.Nat.{ℕ, ◌+◌, ◌≤◌, ◌<◌}
@@ -10,15 +10,9 @@ use lib.ListN.{length, set}
 use Rattle.walks.specs.Best.{Found}
 use Rattle.rows.specs.declared.way.Way.{Way}
 use Rattle.rows.specs.Row.{Row, SomeRow}
-use Rattle.rows.specs.Way.{Leads, Light, Loaded, RowMade, RowsMade}
-use Rattle.rows.proofs.Cells.{read_as}
-use Rattle.rows.proofs.Ways.{leads-loaded, leads-light}
+use Rattle.rows.specs.Way.{Leads, Loaded, RowMade, RowsMade}
+use Rattle.rows.proofs.Ways.{leads-loaded}
 use Rattle.rows.proofs.Stores.{kept-none, kept_set, kept_more, written-set, row-part, row_one, row-join, row_kept}
-
--- a way that is read from the even row can be weighed
-pub other-light : {p j : ℕ} {early : Bool} {w : Way} {B P : List ℕ} → p ≤ 1024 → SomeRow p 0 j 1 B P → Loaded early B P j j w → Light w
-other-light {j = j} {early = early} small s l =
-    leads-light {r = read_as early s.row} small (omega (arith, l.counted)) (leads-loaded (rw zero-add at (s.there.holds j (omega arith) (omega arith))) l)
 
 -- the way x to one stop is read, and the way w to the other is written
 pub other-made : {p p' off from to : ℕ} {f : (ℕ → Found ℕ) → ℕ → Found ℕ} (x w : Way) (B P : List ℕ) → off + to < length B → off + to < length P → Loaded false B P from from x

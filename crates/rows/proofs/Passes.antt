@@ -6,9 +6,7 @@ use Prim.Native.Nat.{ℕ, ◌+◌, ◌*◌, ◌-◌, ◌%◌, ◌^◌, ◌≤◌
 use native.Mathlib.Omega.{arith}
 use Rattle.walks.specs.Best.{Found}
 use Rattle.tree.specs.Neighbour.{trail, reach}
-use Rattle.rows.specs.declared.Costs.{Costs}
 use Rattle.rows.specs.Costing.{Costing}
-use Rattle.rows.specs.Source.{Sources, costs_of}
 use Rattle.rows.specs.Row.{next, along, first_row, last_row, Row, SomeRow, Kept}
 use Rattle.rows.specs.Way.{three_on, RowMade, RowsMade}
 use Rattle.rows.specs.Pass.{AlignedBlock, PassLeft, weighings, pass_weighings}
@@ -157,11 +155,11 @@ pub first_some : {p off base size size' : ℕ} {r : ℕ → Found ℕ} {B P : Li
 first_some {r = r} e l = record { row = r; there = rw (← e) l }
 
 -- THE PASS: the first row, and the others from it
-pub pass-left : {c : Costs} {s : Sources} {before left base m size r : ℕ} {B P B₁ P₁ B₂ P₂ : List ℕ} → size ≡ 2 ^ m → 0 < m → left + 2 ^ m ≤ 1024 → base + 2 ^ m ≤ c.n
-    → Row (left + 1) (first_row (costs_of c s) before left) 0 base size B₁ P₁ → Kept base size B B₁ × Kept base size P P₁
-    → RowsMade c.n (left + 1) (left + 2 ^ m) (last_row (costs_of c s) left (2 ^ (m - 1))) 0 c.n base (2 ^ m) (pass_weighings m) B₁ P₁ B₂ P₂ r → PassLeft c s before left base m B P B₂ P₂ r
-pass-left {c} {s} {before} {left} {base} {m} e some small inside l k made = record {
-  row = last-holds (costs_of c s) before left m some small (made.turned _ (rw e at l));
+pub pass-left : {C : Costing} {before left base m size r : ℕ} {B P B₁ P₁ B₂ P₂ : List ℕ} → size ≡ 2 ^ m → 0 < m → left + 2 ^ m ≤ 1024 → base + 2 ^ m ≤ C.stops
+    → Row (left + 1) (first_row C before left) 0 base size B₁ P₁ → Kept base size B B₁ × Kept base size P P₁
+    → RowsMade C.stops (left + 1) (left + 2 ^ m) (last_row C left (2 ^ (m - 1))) 0 C.stops base (2 ^ m) (pass_weighings m) B₁ P₁ B₂ P₂ r → PassLeft C before left base m B P B₂ P₂ r
+pass-left {C} {before} {left} {base} {m} e some small inside l k made = record {
+  row = last-holds C before left m some small (made.turned _ (rw e at l));
   counted = made.counted;
   totals_kept = kept_more (omega arith) (omega arith) (kept_more (omega arith) (omega arith) kept-none k.0) made.totals_kept;
   pivots_kept = kept_more (omega arith) (omega arith) (kept_more (omega arith) (omega arith) kept-none k.1) made.pivots_kept;

@@ -78,7 +78,7 @@ module _ {p : ℕ} {r : ℕ → Found ℕ} {off : ℕ} where
   row_one {i} e s l = record { holds = λ j x y. let f : j ≡ i = omega arith in rw (f, ← e, l.total, l.pivot) s }
 
   -- four ways
-  pub row-four : {i at : ℕ} {w : Four} {B P : List ℕ} → at ≡ off + i → InFour (Leads p r) i w → InFour (Written B P) at w → Row p r off i 4 B P
+  pub row-four : {i at : ℕ} {w : Four Way} {B P : List ℕ} → at ≡ off + i → InFour (Leads p r) i w → InFour (Written B P) at w → Row p r off i 4 B P
   row-four e s l =
       row-join {size = 3} refl refl (row-join {size = 2} refl refl (row-join {size = 1} refl refl (row_one e s.a l.a) (row_one (omega arith) s.b l.b))
       (row_one (omega arith) s.c l.c)) (row_one (omega arith) s.d l.d)
@@ -94,10 +94,6 @@ written-set B P j w a b e f = rw (e, f) (record { total = get_or-set_same B j w.
 
 -- rows as they are made, one stop after the other
 module _ {p : ℕ} {r : ℕ → Found ℕ} {off : ℕ} where
-  -- no stop yet
-  pub row-none : {base size : ℕ} {B P : List ℕ} → size ≡ 0 → Row p r off base size B P
-  row-none e = record { holds = λ i x y. absurd (omega arith) }
-
   -- one more
   pub row_more : {base i : ℕ} (at : ℕ) (w : Way) {B P B' P' : List ℕ} → at ≡ off + i → base ≤ i → at < length B → at < length P → Leads p r i w
       → (B' ≡ set B at w.total) × (P' ≡ set P at w.pivot) → Row p r off base (i - base) B P → Row p r off base (i + 1 - base) B' P'
@@ -107,7 +103,7 @@ module _ {p : ℕ} {r : ℕ → Found ℕ} {off : ℕ} where
       row-join {next = i} {more = 1} (omega arith) (omega arith) (row_kept (inl (omega arith)) b q l) (row_one e s (written-set B P at w x y f.0 f.1))
 
 -- four ways written one after the other
-module _ (at : ℕ) (w : Four) (B P : List ℕ) {B₁ P₁ B₂ P₂ B₃ P₃ B₄ P₄ : List ℕ} where
+module _ (at : ℕ) (w : Four Way) (B P : List ℕ) {B₁ P₁ B₂ P₂ B₃ P₃ B₄ P₄ : List ℕ} where
   pub stored-four : at + 3 < length B → at + 3 < length P
       → (B₁ ≡ set B at w.a.total) × (P₁ ≡ set P at w.a.pivot) → (B₂ ≡ set B₁ (at + 1) w.b.total) × (P₂ ≡ set P₁ (at + 1) w.b.pivot)
       → (B₃ ≡ set B₂ (at + 2) w.c.total) × (P₃ ≡ set P₂ (at + 2) w.c.pivot) → (B₄ ≡ set B₃ (at + 3) w.d.total) × (P₄ ≡ set P₃ (at + 3) w.d.pivot)
@@ -163,7 +159,7 @@ module _ (at : ℕ) (w : Four) (B P : List ℕ) {B₁ P₁ B₂ P₂ B₃ P₃ B
           (kept_more (omega arith) (omega arith) kept-none k) l) m) n
 
 -- four ways that are read from the even row
-pub loaded-four : {p i : ℕ} {r : ℕ → Found ℕ} {early : Bool} {w : Four} {B P : List ℕ} → Row p r 0 i 4 B P → InFour (λ j. Loaded early B P j j) i w → InFour (Leads p (read_as early r)) i w
+pub loaded-four : {p i : ℕ} {r : ℕ → Found ℕ} {early : Bool} {w : Four Way} {B P : List ℕ} → Row p r 0 i 4 B P → InFour (λ j. Loaded early B P j j) i w → InFour (Leads p (read_as early r)) i w
 loaded-four l s = all-four (λ j x a b k. leads-loaded (rw zero-add at (l.holds j a b)) k) s
 
 -- two rows are as long as they were

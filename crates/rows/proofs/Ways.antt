@@ -158,7 +158,7 @@ pub leads-light : {p i : ℕ} {r : ℕ → Found ℕ} {w : Way} → p ≤ 1024 �
 leads-light h few s = record { total = stands-small h s; count = few }
 
 -- one law for each of four ways
-pub each-four : {P Q : ℕ → Way → Type 0} {R : ℕ → Way → Way → Type 0} {i : ℕ} {w u : Four}
+pub each-four : {P Q : ℕ → Way → Type 0} {R : ℕ → Way → Way → Type 0} {i : ℕ} {w u : Four Way}
     → ((j : ℕ) (x y : Way) → i ≤ j → j < i + 4 → P j x → R j x y → Q j y) → InFour P i w → ByFour R i w u → InFour Q i u
 each-four {i = i} f p o = record {
   a = f i _ _ (omega arith) (omega arith) p.a o.a;
@@ -168,7 +168,7 @@ each-four {i = i} f p o = record {
 }
 
 -- the same of what holds of each
-pub all-four : {P Q : ℕ → Way → Type 0} {i : ℕ} {w : Four} → ((j : ℕ) (x : Way) → i ≤ j → j < i + 4 → P j x → Q j x) → InFour P i w → InFour Q i w
+pub all-four : {P Q : ℕ → Way → Type 0} {i : ℕ} {w : Four Way} → ((j : ℕ) (x : Way) → i ≤ j → j < i + 4 → P j x → Q j x) → InFour P i w → InFour Q i w
 all-four {i = i} f p = record {
   a = f i _ (omega arith) (omega arith) p.a;
   b = f (i + 1) _ (omega arith) (omega arith) p.b;
@@ -177,7 +177,7 @@ all-four {i = i} f p = record {
 }
 
 -- four ways that were weighed so often can be weighed
-pub light-four : {p i k : ℕ} {r : ℕ → Found ℕ} {w : Four} → p ≤ 1024 → k < 4294967296 → InFour (λ j x. x.count ≡ k) i w → InFour (Leads p r) i w → EachFour Light w
+pub light-four : {p i k : ℕ} {r : ℕ → Found ℕ} {w : Four Way} → p ≤ 1024 → k < 4294967296 → InFour (λ j x. x.count ≡ k) i w → InFour (Leads p r) i w → EachFour Light w
 light-four h few n s = record {
   a = leads-light h (omega (arith, n.a)) s.a;
   b = leads-light h (omega (arith, n.b)) s.b;

@@ -1,13 +1,11 @@
 -- A pass over a block of places: what it asks, what it leaves, and how many candidates it weighs.
 use Rattle.std.specs.Prelude.{◌≡◌, Bool, true, false, List, ℕ, zero, suc, ◌+◌, ◌*◌, ◌-◌, ◌^◌, ◌≤◌, ◌<◌, length, get_or}
-use Rattle.base.specs.Buffer.{Unsigned, SharedUnsigned, at_entry, at_exit}
+use Rattle.base.specs.Buffer.{Unsigned, at_entry, at_exit}
 use Rattle.walks.specs.Walk.{Graph}
 use Rattle.walks.specs.Rows.{line, Codes}
 use Rattle.tree.specs.Neighbour.{reach, may_follow}
 use Rattle.tree.specs.Block.{beside_of}
-use Rattle.rows.specs.declared.Costs.{Costs}
-use Rattle.rows.specs.Costing.{block_graph}
-use Rattle.rows.specs.Source.{Sources, lent_sources, costs_of, Readable}
+use Rattle.rows.specs.Costing.{Costing, block_graph}
 use Rattle.rows.specs.Row.{unreached, Kept, TwoRows}
 
 -- an aligned block of 2^m of n
@@ -31,15 +29,14 @@ weighings size from (suc d) = weighings size from d + size * reach (from + d)
 unfoldable pub pass_weighings : ℕ → ℕ
 pass_weighings m = weighings (2 ^ m) 1 (2 ^ m - 1)
 
--- what a pass asks of its numbers and of the slices' lengths: an aligned block of 2^m places, 2 or more, as large a block of stops, which may
+-- what a pass for n stops asks of its numbers and of the lengths of its work space: an aligned block of 2^m places, 2 or more, as large a block of stops, which may
 -- follow the stop in the place before, and two rows of work space
-pub record PassReady (c : Costs) (s : Sources) (totals pivots before left base m : ℕ) : Type 0 where
-  pub readable : Readable c s
-  pub space : TwoRows c.n totals pivots
+pub record PassReady (n totals pivots before left base m : ℕ) : Type 0 where
+  pub space : TwoRows n totals pivots
   pub some : 0 < m
-  pub places : AlignedBlock c.n left m
-  pub stops : AlignedBlock c.n base m
-  pub earlier : before < c.n
+  pub places : AlignedBlock n left m
+  pub stops : AlignedBlock n base m
+  pub earlier : before < n
   pub follows : 0 < left → may_follow left before base ≡ true
 
 -- a test tells whether A holds
@@ -53,23 +50,23 @@ pub record RowHolds (G : Graph) (mid p off base size : ℕ) (totals pivots : Lis
 
 -- what a pass leaves: the odd row holds the best walks over the block's places, with their stops in its middle place, and r is the number of
 -- weighings. What else the two rows hold is left open; beyond them nothing was written
-pub record PassLeft (c : Costs) (s : Sources) (before left base m : ℕ) (B P B' P' : List ℕ) (r : ℕ) : Type 0 where
-  pub row : RowHolds (block_graph (costs_of c s) before left) (2 ^ (m - 1) - 1) (2 ^ m - 1) c.n base (2 ^ m) B' P'
+pub record PassLeft (C : Costing) (before left base m : ℕ) (B P B' P' : List ℕ) (r : ℕ) : Type 0 where
+  pub row : RowHolds (block_graph C before left) (2 ^ (m - 1) - 1) (2 ^ m - 1) C.stops base (2 ^ m) B' P'
   pub counted : r ≡ pass_weighings m
-  pub totals_kept : Kept 0 (c.n + c.n) B B'
-  pub pivots_kept : Kept 0 (c.n + c.n) P P'
+  pub totals_kept : Kept 0 (C.stops + C.stops) B B'
+  pub pivots_kept : Kept 0 (C.stops + C.stops) P P'
 
 -- THE PROMISE of a pass that answers r. A pass that is not asked for rightly writes nothing and answers 0
-pub record PassMade (c : Costs) (s : Sources) (before left base m : ℕ) (B P B' P' : List ℕ) (r : ℕ) : Type 0 where
-  pub made : PassReady c s (length B) (length P) before left base m → PassLeft c s before left base m B P B' P' r
-  pub refused : (PassReady c s (length B) (length P) before left base m → ⊥) → (r ≡ 0) × (B' ≡ B) × (P' ≡ P)
+pub record PassMade (C : Costing) (before left base m : ℕ) (B P B' P' : List ℕ) (r : ℕ) : Type 0 where
+  pub made : PassReady C.stops (length B) (length P) before left base m → PassLeft C before left base m B P B' P' r
+  pub refused : (PassReady C.stops (length B) (length P) before left base m → ⊥) → (r ≡ 0) × (B' ≡ B) × (P' ≡ P)
 
 -- the same of a call's parameters
-abbrev pub MakesPass : Costs → SharedUnsigned → SharedUnsigned → SharedUnsigned → Unsigned → Unsigned → (before left base m : ℕ) → ℕ → Type 0
-MakesPass c table places path totals pivots before left base m r =
-    PassMade c (lent_sources table places path) before left base m (at_entry totals) (at_entry pivots) (at_exit totals) (at_exit pivots) r
+abbrev pub MakesPass : Costing → Unsigned → Unsigned → (before left base m : ℕ) → ℕ → Type 0
+MakesPass C totals pivots before left base m r =
+    PassMade C before left base m (at_entry totals) (at_entry pivots) (at_exit totals) (at_exit pivots) r
 
--- the promise of a call that answers r for what stop i costs in place 0; what cannot be read, or no stop, costs 0
-pub record StartTold (c : Costs) (s : Sources) (i r : ℕ) : Type 0 where
-  pub told : Readable c s → i < c.n → r ≡ (costs_of c s).start i
-  pub refused : (Readable c s → i < c.n → ⊥) → r ≡ 0
+-- the promise of a call that answers r for what stop i costs in place 0; no stop costs 0
+pub record StartTold (C : Costing) (i r : ℕ) : Type 0 where
+  pub told : i < C.stops → r ≡ C.start i
+  pub refused : (i < C.stops → ⊥) → r ≡ 0

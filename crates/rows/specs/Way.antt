@@ -5,7 +5,6 @@ use Rattle.walks.specs.Best.{Found, scan, step}
 use Rattle.walks.specs.Rows.{turn}
 use Rattle.tree.specs.Neighbour.{trail, may_follow}
 use Rattle.tree.specs.Block.{beside_of}
-use Rattle.rows.specs.declared.cost.Moves.{Moves}
 use Rattle.rows.specs.declared.way.Way.{Way}
 use Rattle.rows.specs.declared.way.Four.{Four}
 use Rattle.rows.specs.Costing.{Costing}
@@ -26,21 +25,21 @@ pub record Priced (weight : ℕ → ℕ → ℕ) (from to c : ℕ) : Type 0 wher
   pub small : c < 8589934592
 
 -- the moves to four stops, each from the other of its pair
-pub record CrossedMoves (weight : ℕ → ℕ → ℕ) (i : ℕ) (w : Moves) : Type 0 where
+pub record CrossedMoves (weight : ℕ → ℕ → ℕ) (i : ℕ) (w : Four ℕ) : Type 0 where
   pub a : Priced weight (i + 1) i w.a
   pub b : Priced weight i (i + 1) w.b
   pub c : Priced weight (i + 3) (i + 2) w.c
   pub d : Priced weight (i + 2) (i + 3) w.d
 
 -- to the first two from a stop of the other two, and to these from a stop of the first two
-pub record PairedMoves (weight : ℕ → ℕ → ℕ) (i low high : ℕ) (w : Moves) : Type 0 where
+pub record PairedMoves (weight : ℕ → ℕ → ℕ) (i low high : ℕ) (w : Four ℕ) : Type 0 where
   pub a : Priced weight high i w.a
   pub b : Priced weight high (i + 1) w.b
   pub c : Priced weight low (i + 2) w.c
   pub d : Priced weight low (i + 3) w.d
 
 -- to all four from one stop
-pub record FourMoves (weight : ℕ → ℕ → ℕ) (from to : ℕ) (w : Moves) : Type 0 where
+pub record FourMoves (weight : ℕ → ℕ → ℕ) (from to : ℕ) (w : Four ℕ) : Type 0 where
   pub a : Priced weight from to w.a
   pub b : Priced weight from (to + 1) w.b
   pub c : Priced weight from (to + 2) w.c
@@ -104,21 +103,21 @@ pub record Written (totals pivots : List ℕ) (j : ℕ) (w : Way) : Type 0 where
   pub pivot : get_or pivots j 0 ≡ w.pivot
 
 -- what holds of each of four ways
-pub record EachFour (P : Way → Type 0) (w : Four) : Type 0 where
+pub record EachFour (P : Way → Type 0) (w : Four Way) : Type 0 where
   pub a : P w.a
   pub b : P w.b
   pub c : P w.c
   pub d : P w.d
 
 -- what holds of the ways to the stops i to i + 3
-pub record InFour (P : ℕ → Way → Type 0) (i : ℕ) (w : Four) : Type 0 where
+pub record InFour (P : ℕ → Way → Type 0) (i : ℕ) (w : Four Way) : Type 0 where
   pub a : P i w.a
   pub b : P (i + 1) w.b
   pub c : P (i + 2) w.c
   pub d : P (i + 3) w.d
 
 -- what is done with each of them
-pub record ByFour (R : ℕ → Way → Way → Type 0) (i : ℕ) (w r : Four) : Type 0 where
+pub record ByFour (R : ℕ → Way → Way → Type 0) (i : ℕ) (w r : Four Way) : Type 0 where
   pub a : R i w.a r.a
   pub b : R (i + 1) w.b r.b
   pub c : R (i + 2) w.c r.c

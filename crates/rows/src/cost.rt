@@ -1,146 +1,71 @@
-// What a move costs: the only readings of a cost. `of_move` reads one, and the others gather those of four stops.
+// What a move costs: the trait of all costs by place, and the moves to four stops. How a cost is read is known to the impls alone.
 
 ghost use Rattle.std.specs.Prelude.{◌≡◌, ◌+◌, ◌^◌, ◌≤◌, ◌<◌};
-ghost use Rattle.tree.specs.Total.{entry};
-ghost use Rattle.rows.specs.Source.{held_sources, Readable, ReadBy, lent_costs};
+ghost use Rattle.rows.specs.Costing.{Costing};
 ghost use Rattle.rows.specs.Way.{Priced, CrossedMoves, PairedMoves, FourMoves};
 
-use crate::{BY_PATH, BY_PLACES, BY_TABLE, Costs};
+use crate::way::Four;
 
-// What four moves cost.
-#[derive(Clone, Copy)]
-pub struct Moves {
-    pub a: u64,
-    pub b: u64,
-    pub c: u64,
-    pub d: u64,
-}
+// COSTS BY PLACE, for at most 1,024 stops: which stop may stand where, what the first stop costs, and what each move costs. A pass needs no more of
+// them, and each impl says which record of costs it is.
+pub trait Costs: Copy {
+    ghost costing: { Self → Costing };
 
-// The time as a total.
-fn wide(time: u32) -> u64
-    ensures { (result ≡ time) × (result < 2 ^ 32) }
-{
-    time as u64
-}
+    // The number of stops.
+    fn stops(self) -> usize
+        ensures { result ≡ (costing self).stops };
 
-// What the move from one stop to another costs where it leads into `place`.
-pub fn of_move(
-    costs: Costs,
-    table: &[u32],
-    places: &[u32],
-    path: &[u8],
-    by: u8,
-    place: usize,
-    from: usize,
-    to: usize,
-) -> u64
-    requires read_by { ReadBy by costs (held_sources table places path) }
-    requires place_lt_n { (place < costs.n) × (from < costs.n) × (to < costs.n) }
-    ensures { Priced ((lent_costs costs table places path).weight place) from to result }
-{
-    if by == BY_PATH {
-        return wide(times::time_in(path, costs.version, from, to));
-    }
-    let n = costs.n;
-    let time = wide(table[from * n + to]);
-    if by == BY_TABLE {
-        return time;
-    }
-    time + wide(places[to * n + place])
-}
+    // Whether stop i may stand in `place`.
+    fn fits(self, place: usize, i: usize) -> bool
+        requires { i < 1024 }
+        ensures { result ≡ (costing self).fits place i };
 
-// The move from the closing stop to stop i, and 0 where there is none.
-fn of_closing(costs: Costs, table: &[u32], places: &[u32], path: &[u8], i: usize) -> u64
-    requires readable { Readable costs (held_sources table places path) }
-    requires i_lt_n { i < costs.n }
-    ensures { (result ≡ entry costs.n table.now costs.closing i) × (result < 2 ^ 32) }
-{
-    let n = costs.n;
-    if n <= costs.closing {
-        return 0;
-    }
-    if costs.by == BY_PATH {
-        return 0;
-    }
-    wide(table[costs.closing * n + i])
-}
+    // What stop i costs in place 0.
+    fn of_start(self, i: usize) -> u64
+        requires { i < (costing self).stops }
+        ensures { (result ≡ (costing self).start i) × (result < 2 ^ 33) };
 
-// What stop i costs in place 0.
-pub fn of_start(costs: Costs, table: &[u32], places: &[u32], path: &[u8], i: usize) -> u64
-    requires readable { Readable costs (held_sources table places path) }
-    requires i_lt_n { i < costs.n }
-    ensures { (result ≡ (lent_costs costs table places path).start i) × (result < 2 ^ 33) }
-{
-    let home = of_closing(costs, table, places, path, i);
-    if costs.by != BY_PLACES {
-        return home;
-    }
-    let n = costs.n;
-    home + wide(places[i * n])
+    // What the move from one stop to another costs where it leads into `place`.
+    fn of_move(self, place: usize, from: usize, to: usize) -> u64
+        requires { (place < (costing self).stops) × (from < (costing self).stops) × (to < (costing self).stops) }
+        ensures { Priced ((costing self).weight place) from to result };
+
+    ghost small: { (c : Self) → (costing c).stops ≤ 1024 };
 }
 
 // The moves to the stops i to i + 3, each from the other of its pair.
-pub fn crossed(
-    costs: Costs,
-    table: &[u32],
-    places: &[u32],
-    path: &[u8],
-    by: u8,
-    place: usize,
-    i: usize,
-) -> Moves
-    requires read_by { ReadBy by costs (held_sources table places path) }
-    requires place_lt_n { (place < costs.n) × (i + 4 ≤ costs.n) }
-    ensures { CrossedMoves ((lent_costs costs table places path).weight place) i result }
+pub fn crossed<C: Costs>(costs: C, place: usize, i: usize) -> Four<u64>
+    requires place_lt_n { (place < (C.costing costs).stops) × (i + 4 ≤ (C.costing costs).stops) }
+    ensures { CrossedMoves ((C.costing costs).weight place) i result }
 {
-    let a = of_move(costs, table, places, path, by, place, i + 1, i);
-    let b = of_move(costs, table, places, path, by, place, i, i + 1);
-    let c = of_move(costs, table, places, path, by, place, i + 3, i + 2);
-    let d = of_move(costs, table, places, path, by, place, i + 2, i + 3);
-    Moves { a, b, c, d }
+    let a = costs.of_move(place, i + 1, i);
+    let b = costs.of_move(place, i, i + 1);
+    let c = costs.of_move(place, i + 3, i + 2);
+    let d = costs.of_move(place, i + 2, i + 3);
+    Four { a, b, c, d }
 }
 
 // The moves to the stops i and i + 1 from the stop `high`, and to the stops i + 2 and i + 3 from the stop `low`.
-pub fn paired(
-    costs: Costs,
-    table: &[u32],
-    places: &[u32],
-    path: &[u8],
-    by: u8,
-    place: usize,
-    i: usize,
-    low: usize,
-    high: usize,
-) -> Moves
-    requires read_by { ReadBy by costs (held_sources table places path) }
-    requires place_lt_n { (place < costs.n) × (i + 4 ≤ costs.n) × (low < costs.n) × (high < costs.n) }
-    ensures { PairedMoves ((lent_costs costs table places path).weight place) i low high result }
+pub fn paired<C: Costs>(costs: C, place: usize, i: usize, low: usize, high: usize) -> Four<u64>
+    requires place_lt_n { (place < (C.costing costs).stops) × (i + 4 ≤ (C.costing costs).stops) }
+    requires low_lt_n { (low < (C.costing costs).stops) × (high < (C.costing costs).stops) }
+    ensures { PairedMoves ((C.costing costs).weight place) i low high result }
 {
-    let a = of_move(costs, table, places, path, by, place, high, i);
-    let b = of_move(costs, table, places, path, by, place, high, i + 1);
-    let c = of_move(costs, table, places, path, by, place, low, i + 2);
-    let d = of_move(costs, table, places, path, by, place, low, i + 3);
-    Moves { a, b, c, d }
+    let a = costs.of_move(place, high, i);
+    let b = costs.of_move(place, high, i + 1);
+    let c = costs.of_move(place, low, i + 2);
+    let d = costs.of_move(place, low, i + 3);
+    Four { a, b, c, d }
 }
 
 // The moves from one stop to the stops `to` to `to` + 3.
-pub fn to_four(
-    costs: Costs,
-    table: &[u32],
-    places: &[u32],
-    path: &[u8],
-    by: u8,
-    place: usize,
-    from: usize,
-    to: usize,
-) -> Moves
-    requires read_by { ReadBy by costs (held_sources table places path) }
-    requires place_lt_n { (place < costs.n) × (from < costs.n) × (to + 4 ≤ costs.n) }
-    ensures { FourMoves ((lent_costs costs table places path).weight place) from to result }
+pub fn to_four<C: Costs>(costs: C, place: usize, from: usize, to: usize) -> Four<u64>
+    requires place_lt_n { (place < (C.costing costs).stops) × (from < (C.costing costs).stops) × (to + 4 ≤ (C.costing costs).stops) }
+    ensures { FourMoves ((C.costing costs).weight place) from to result }
 {
-    let a = of_move(costs, table, places, path, by, place, from, to);
-    let b = of_move(costs, table, places, path, by, place, from, to + 1);
-    let c = of_move(costs, table, places, path, by, place, from, to + 2);
-    let d = of_move(costs, table, places, path, by, place, from, to + 3);
-    Moves { a, b, c, d }
+    let a = costs.of_move(place, from, to);
+    let b = costs.of_move(place, from, to + 1);
+    let c = costs.of_move(place, from, to + 2);
+    let d = costs.of_move(place, from, to + 3);
+    Four { a, b, c, d }
 }

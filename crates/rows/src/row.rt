@@ -5,15 +5,14 @@ ghost use Rattle.std.specs.Prelude.{◌≡◌, true, false, ℕ, ◌+◌, ◌*�
 ghost use Rattle.walks.specs.Best.{Found};
 ghost use Rattle.tree.specs.Neighbour.{trail, may_follow};
 ghost use Rattle.tree.specs.Block.{beside_of};
-ghost use Rattle.rows.specs.Source.{held_sources, Readable, ReadBy, lent_costs};
 ghost use Rattle.rows.specs.Row.{next, first_row, Row, SomeRow, Kept, TwoRows};
 ghost use Rattle.rows.specs.Way.{Leads, Loaded, Written, EachFour, InFour, MakesRow, MakesRows};
 ghost use Rattle.rows.specs.Pass.{BlockClosed};
 
-use crate::way::{Four, Way};
-use crate::{BY_PATH, BY_PLACES, BY_TABLE, Costs, cost, way};
+use crate::cost::Costs;
+use crate::way::{self, Four, Way};
 
-// 2^m.
+// 2^m. A shift, since it is taken for every four stops: the library's `pow` loops.
 pub fn two_to(m: u32) -> usize
     requires { m ≤ 10 }
     ensures { result ≡ 2 ^ m }
@@ -50,7 +49,7 @@ fn load(totals: &[u64], pivots: &[u16], at: usize, early: bool, i: usize) -> Way
 }
 
 // The ways to the stops i to i + 3 in the even row.
-pub fn load_four(totals: &[u64], pivots: &[u16], early: bool, i: usize) -> Four
+pub fn load_four(totals: &[u64], pivots: &[u16], early: bool, i: usize) -> Four<Way>
     requires { (i + 3 < length totals.now) × (i + 3 < length pivots.now) × (i + 3 < 1024) }
     ensures { InFour (λ j. Loaded early totals.now pivots.now j j) i result }
 {
@@ -62,7 +61,7 @@ pub fn load_four(totals: &[u64], pivots: &[u16], early: bool, i: usize) -> Four
 }
 
 // Writes four ways from `at` on, and sums up their weighings.
-pub fn store_four(totals: &mut [u64], pivots: &mut [u16], at: usize, ways: Four) -> u64
+pub fn store_four(totals: &mut [u64], pivots: &mut [u16], at: usize, ways: Four<Way>) -> u64
     requires at_in_bounds { (at + 3 < length totals.old) × (at + 3 < length pivots.old) × (at + 3 < 4096) }
     requires each_four { EachFour (λ w. w.count < 2 ^ 32) ways }
     ensures value { result ≡ ways.a.count + ways.b.count + ways.c.count + ways.d.count }
@@ -81,11 +80,8 @@ pub fn store_four(totals: &mut [u64], pivots: &mut [u16], at: usize, ways: Four)
 }
 
 // The first row of the places from `left` on, for the stops of a block: the even row.
-pub fn first_row(
-    costs: Costs,
-    table: &[u32],
-    places: &[u32],
-    path: &[u8],
+pub fn first_row<C: Costs>(
+    costs: C,
     totals: &mut [u64],
     pivots: &mut [u16],
     before: usize,
@@ -93,93 +89,77 @@ pub fn first_row(
     base: usize,
     size: usize,
 )
-    requires readable { Readable costs (held_sources table places path) }
-    requires two_rows { TwoRows costs.n (length totals.old) (length pivots.old) }
-    requires before_lt_n { (before < costs.n) × (left < costs.n) × (base + size ≤ costs.n) }
+    requires two_rows { TwoRows (C.costing costs).stops (length totals.old) (length pivots.old) }
+    requires before_lt_n { (before < (C.costing costs).stops) × (left < (C.costing costs).stops) × (base + size ≤ (C.costing costs).stops) }
     requires by_index { (i : ℕ) → base ≤ i → i < base + size → 0 < left → may_follow left before i ≡ true }
-    ensures row { Row (left + 1) (first_row (lent_costs costs table places path) before left) 0 base size totals.new pivots.new }
+    ensures row { Row (left + 1) (first_row (C.costing costs) before left) 0 base size totals.new pivots.new }
     ensures kept { Kept base size totals.old totals.new × Kept base size pivots.old pivots.new }
 {
     for i in base..base + size {
-        let begun = way::first(costs, table, places, path, before, left, i);
+        let begun = way::first(costs, before, left, i);
         totals[i] = begun.total;
         pivots[i] = begun.pivot;
     }
 }
 
 // The stop `to` in the odd row, in a late place, from the only stop before it, in the even row.
-fn other(
-    costs: Costs,
-    table: &[u32],
-    places: &[u32],
-    path: &[u8],
+fn other<C: Costs>(
+    costs: C,
     totals: &mut [u64],
     pivots: &mut [u16],
     place: usize,
     from: usize,
     to: usize,
 ) -> u64
-    requires readable { Readable costs (held_sources table places path) }
-    requires two_rows { TwoRows costs.n (length totals.old) (length pivots.old) }
-    requires place_lt_n { (place < costs.n) × (trail place ≡ 0) × (beside_of to 0 ≡ from) × (from < costs.n) × (to < costs.n) }
+    requires two_rows { TwoRows (C.costing costs).stops (length totals.old) (length pivots.old) }
+    requires place_lt_n { (place < (C.costing costs).stops) × (trail place ≡ 0) × (beside_of to 0 ≡ from) × (from < (C.costing costs).stops) × (to < (C.costing costs).stops) }
     requires some_row { SomeRow place 0 from 1 totals.old pivots.old }
-    ensures { MakesRow place (place + 1) (next (lent_costs costs table places path) place false) 0 from 1 costs.n to 1 1 totals pivots result }
+    ensures { MakesRow place (place + 1) (next (C.costing costs) place false) 0 from 1 (C.costing costs).stops to 1 1 totals pivots result }
 {
-    let n = costs.n;
+    let n = costs.stops();
     let before = load(totals, pivots, from, false, from);
-    let by = costs.by;
-    let cost = cost::of_move(costs, table, places, path, by, place, from, to);
-    let way = way::only(costs, by, place, before, cost, false, to, 0);
+    let cost = costs.of_move(place, from, to);
+    let way = way::only(costs, place, before, cost, false, to, 0);
     totals[n + to] = way.total;
     pivots[n + to] = way.pivot;
     way.count
 }
 
 // The second and last place of two, for the stops i and i + 1: each has the other before it.
-pub fn pair(
-    costs: Costs,
-    table: &[u32],
-    places: &[u32],
-    path: &[u8],
+pub fn pair<C: Costs>(
+    costs: C,
     totals: &mut [u64],
     pivots: &mut [u16],
     place: usize,
     i: usize,
 ) -> u64
-    requires readable { Readable costs (held_sources table places path) }
-    requires two_rows { TwoRows costs.n (length totals.old) (length pivots.old) }
-    requires place_lt_n { (place < costs.n) × (trail place ≡ 0) × (i % 2 ≡ 0) × (i + 2 ≤ costs.n) }
+    requires two_rows { TwoRows (C.costing costs).stops (length totals.old) (length pivots.old) }
+    requires place_lt_n { (place < (C.costing costs).stops) × (trail place ≡ 0) × (i % 2 ≡ 0) × (i + 2 ≤ (C.costing costs).stops) }
     requires some_row { SomeRow place 0 i 2 totals.old pivots.old }
-    ensures { MakesRows costs.n place (place + 1) (next (lent_costs costs table places path) place false) 0 costs.n i 2 2 totals pivots result }
+    ensures { MakesRows (C.costing costs).stops place (place + 1) (next (C.costing costs) place false) 0 (C.costing costs).stops i 2 2 totals pivots result }
 {
-    let one = other(costs, table, places, path, totals, pivots, place, i + 1, i);
-    let two = other(costs, table, places, path, totals, pivots, place, i, i + 1);
+    let one = other(costs, totals, pivots, place, i + 1, i);
+    let two = other(costs, totals, pivots, place, i, i + 1);
     one + two
 }
 
 // The cheapest ways to the stops `to` to `to` + 3 in `place` from their 2^t candidates in the odd row; t is 2 or more, so that the four have the
 // same.
-fn cheapest_four(
-    costs: Costs,
-    table: &[u32],
-    places: &[u32],
-    path: &[u8],
-    by: u8,
+fn cheapest_four<C: Costs, const EARLY: bool>(
+    costs: C,
     totals: &[u64],
     pivots: &[u16],
     place: usize,
     t: u32,
-    early: bool,
     to: usize,
-) -> Four
-    requires read_by { ReadBy by costs (held_sources table places path) }
-    requires two_rows { TwoRows costs.n (length totals.now) (length pivots.now) }
-    requires place_lt_n { (place < costs.n) × (t ≡ trail place) × (2 ≤ t) × (t < 10) × (to % 4 ≡ 0) × (to + 4 ≤ costs.n) × (beside_of to t + 2 ^ t ≤ costs.n) }
-    requires some_row { SomeRow place costs.n (beside_of to t) (2 ^ t) totals.now pivots.now }
+) -> Four<Way>
+    requires two_rows { TwoRows (C.costing costs).stops (length totals.now) (length pivots.now) }
+    requires place_lt_n { (place < (C.costing costs).stops) × (t ≡ trail place) × (2 ≤ t) × (t < 10) × (to % 4 ≡ 0) × (to + 4 ≤ (C.costing costs).stops) × (beside_of to t + 2 ^ t ≤ (C.costing costs).stops) }
+    requires some_row { SomeRow place (C.costing costs).stops (beside_of to t) (2 ^ t) totals.now pivots.now }
     ensures in_four { InFour (λ i w. w.count ≡ 2 ^ t) to result }
-    ensures by_index { (row : ℕ → Found ℕ) → Row place row costs.n (beside_of to t) (2 ^ t) totals.now pivots.now → InFour (Leads (place + 1) (next (lent_costs costs table places path) place early row)) to result }
+    ensures by_index { (row : ℕ → Found ℕ) → Row place row (C.costing costs).stops (beside_of to t) (2 ^ t) totals.now pivots.now → InFour (Leads (place + 1) (next (C.costing costs) place EARLY row)) to result }
 {
-    let n = costs.n;
+    let n = costs.stops();
     let first = beside(to, t);
     let none = way::start(0, 0);
     let mut held = Four {
@@ -189,188 +169,48 @@ fn cheapest_four(
         d: none,
     };
     for j in first..first + two_to(t) {
-        let before = load(totals, pivots, n + j, early, j);
-        held = way::weigh_four(costs, table, places, path, by, place, held, before, j, to);
+        let before = load(totals, pivots, n + j, EARLY, j);
+        held = way::weigh_four(costs, place, held, before, j, to);
     }
-    way::settle_four(costs, by, place, held, early, to)
+    way::settle_four(costs, place, held, EARLY, to)
 }
 
-// The same by tables, where it is not known which.
-fn any_four(
-    costs: Costs,
-    table: &[u32],
-    places: &[u32],
-    path: &[u8],
-    totals: &[u64],
-    pivots: &[u16],
-    place: usize,
-    t: u32,
-    early: bool,
-    to: usize,
-) -> Four
-    requires readable { Readable costs (held_sources table places path) × (costs.by ≡ 2 → ⊥) }
-    requires two_rows { TwoRows costs.n (length totals.now) (length pivots.now) }
-    requires place_lt_n { (place < costs.n) × (t ≡ trail place) × (2 ≤ t) × (t < 10) × (to % 4 ≡ 0) × (to + 4 ≤ costs.n) × (beside_of to t + 2 ^ t ≤ costs.n) }
-    requires some_row { SomeRow place costs.n (beside_of to t) (2 ^ t) totals.now pivots.now }
-    ensures in_four { InFour (λ i w. w.count ≡ 2 ^ t) to result }
-    ensures by_index { (row : ℕ → Found ℕ) → Row place row costs.n (beside_of to t) (2 ^ t) totals.now pivots.now → InFour (Leads (place + 1) (next (lent_costs costs table places path) place early row)) to result }
-{
-    if costs.by == BY_TABLE {
-        cheapest_four(
-            costs, table, places, path, BY_TABLE, totals, pivots, place, t, early, to,
-        )
-    } else {
-        cheapest_four(
-            costs, table, places, path, BY_PLACES, totals, pivots, place, t, early, to,
-        )
-    }
-}
-
-// The stops `to` to `to` + 3 in the even row, from their candidates in the odd row, by tables.
-fn four_columns(
-    costs: Costs,
-    table: &[u32],
-    places: &[u32],
-    path: &[u8],
+// The stops `to` to `to` + 3 in the even row, from their candidates in the odd row.
+fn four_columns<C: Costs, const EARLY: bool>(
+    costs: C,
     totals: &mut [u64],
     pivots: &mut [u16],
     place: usize,
     t: u32,
-    early: bool,
     to: usize,
 ) -> u64
-    requires readable { Readable costs (held_sources table places path) × (costs.by ≡ 2 → ⊥) }
-    requires two_rows { TwoRows costs.n (length totals.old) (length pivots.old) }
-    requires place_lt_n { (place < costs.n) × (t ≡ trail place) × (2 ≤ t) × (t < 10) × (to % 4 ≡ 0) × (to + 4 ≤ costs.n) × (beside_of to t + 2 ^ t ≤ costs.n) }
-    requires some_row { SomeRow place costs.n (beside_of to t) (2 ^ t) totals.old pivots.old }
-    ensures { MakesRow place (place + 1) (next (lent_costs costs table places path) place early) costs.n (beside_of to t) (2 ^ t) 0 to 4 (4 * 2 ^ t) totals pivots result }
+    requires two_rows { TwoRows (C.costing costs).stops (length totals.old) (length pivots.old) }
+    requires place_lt_n { (place < (C.costing costs).stops) × (t ≡ trail place) × (2 ≤ t) × (t < 10) × (to % 4 ≡ 0) × (to + 4 ≤ (C.costing costs).stops) × (beside_of to t + 2 ^ t ≤ (C.costing costs).stops) }
+    requires some_row { SomeRow place (C.costing costs).stops (beside_of to t) (2 ^ t) totals.old pivots.old }
+    ensures { MakesRow place (place + 1) (next (C.costing costs) place EARLY) (C.costing costs).stops (beside_of to t) (2 ^ t) 0 to 4 (4 * 2 ^ t) totals pivots result }
 {
-    let ways = any_four(
-        costs, table, places, path, totals, pivots, place, t, early, to,
-    );
+    let ways = cheapest_four::<C, EARLY>(costs, totals, pivots, place, t, to);
     store_four(totals, pivots, to, ways)
 }
 
-// The stops `to` to `to` + 3 in the even row, from their candidates in the odd row, by the bytes of a path.
-fn path_columns(
-    costs: Costs,
-    table: &[u32],
-    places: &[u32],
-    path: &[u8],
+// The row of `place`, the even row, from the odd row, for the stops of a block.
+pub fn next_row<C: Costs, const EARLY: bool>(
+    costs: C,
     totals: &mut [u64],
     pivots: &mut [u16],
     place: usize,
     t: u32,
-    early: bool,
-    to: usize,
-) -> u64
-    requires read_by { ReadBy 2 costs (held_sources table places path) }
-    requires two_rows { TwoRows costs.n (length totals.old) (length pivots.old) }
-    requires place_lt_n { (place < costs.n) × (t ≡ trail place) × (2 ≤ t) × (t < 10) × (to % 4 ≡ 0) × (to + 4 ≤ costs.n) × (beside_of to t + 2 ^ t ≤ costs.n) }
-    requires some_row { SomeRow place costs.n (beside_of to t) (2 ^ t) totals.old pivots.old }
-    ensures { MakesRow place (place + 1) (next (lent_costs costs table places path) place early) costs.n (beside_of to t) (2 ^ t) 0 to 4 (4 * 2 ^ t) totals pivots result }
-{
-    let ways = cheapest_four(
-        costs, table, places, path, BY_PATH, totals, pivots, place, t, early, to,
-    );
-    store_four(totals, pivots, to, ways)
-}
-
-// The row of `place`, the even row, from the odd row, for the stops of a block, by tables.
-fn table_row(
-    costs: Costs,
-    table: &[u32],
-    places: &[u32],
-    path: &[u8],
-    totals: &mut [u64],
-    pivots: &mut [u16],
-    place: usize,
-    t: u32,
-    early: bool,
     base: usize,
     size: usize,
 ) -> u64
-    requires readable { Readable costs (held_sources table places path) × (costs.by ≡ 2 → ⊥) }
-    requires two_rows { TwoRows costs.n (length totals.old) (length pivots.old) }
-    requires place_lt_n { (place < costs.n) × (t ≡ trail place) × (2 ≤ t) × (t < 10) × (base % 4 ≡ 0) × (size % 4 ≡ 0) × (base + size ≤ costs.n) × BlockClosed t base size }
-    requires some_row { SomeRow place costs.n base size totals.old pivots.old }
-    ensures { MakesRow place (place + 1) (next (lent_costs costs table places path) place early) costs.n base size 0 base size (2 ^ t * size) totals pivots result }
+    requires two_rows { TwoRows (C.costing costs).stops (length totals.old) (length pivots.old) }
+    requires place_lt_n { (place < (C.costing costs).stops) × (t ≡ trail place) × (2 ≤ t) × (t < 10) × (base % 4 ≡ 0) × (size % 4 ≡ 0) × (base + size ≤ (C.costing costs).stops) × BlockClosed t base size }
+    requires some_row { SomeRow place (C.costing costs).stops base size totals.old pivots.old }
+    ensures { MakesRow place (place + 1) (next (C.costing costs) place EARLY) (C.costing costs).stops base size 0 base size (2 ^ t * size) totals pivots result }
 {
     let mut count = 0;
-    let mut i = base;
-    while i < base + size {
-        count += four_columns(
-            costs, table, places, path, totals, pivots, place, t, early, i,
-        );
-        i += 4;
+    for i in (base..base + size).step_by(4) {
+        count += four_columns::<C, EARLY>(costs, totals, pivots, place, t, i);
     }
     count
-}
-
-// The row of `place`, the even row, from the odd row, for the stops of a block, by the bytes of a path.
-fn path_row(
-    costs: Costs,
-    table: &[u32],
-    places: &[u32],
-    path: &[u8],
-    totals: &mut [u64],
-    pivots: &mut [u16],
-    place: usize,
-    t: u32,
-    early: bool,
-    base: usize,
-    size: usize,
-) -> u64
-    requires read_by { ReadBy 2 costs (held_sources table places path) }
-    requires two_rows { TwoRows costs.n (length totals.old) (length pivots.old) }
-    requires place_lt_n { (place < costs.n) × (t ≡ trail place) × (2 ≤ t) × (t < 10) × (base % 4 ≡ 0) × (size % 4 ≡ 0) × (base + size ≤ costs.n) × BlockClosed t base size }
-    requires some_row { SomeRow place costs.n base size totals.old pivots.old }
-    ensures { MakesRow place (place + 1) (next (lent_costs costs table places path) place early) costs.n base size 0 base size (2 ^ t * size) totals pivots result }
-{
-    let mut count = 0;
-    let mut i = base;
-    while i < base + size {
-        count += path_columns(
-            costs, table, places, path, totals, pivots, place, t, early, i,
-        );
-        i += 4;
-    }
-    count
-}
-
-// The row of `place`, the even row, from the odd row, for the stops of a block. By a path it has a loop of its own, which is called for early and for late
-// places apart: then the compiler keeps it out of the loop by tables, which is as fast as if there were no other.
-pub fn next_row(
-    costs: Costs,
-    table: &[u32],
-    places: &[u32],
-    path: &[u8],
-    totals: &mut [u64],
-    pivots: &mut [u16],
-    place: usize,
-    t: u32,
-    early: bool,
-    base: usize,
-    size: usize,
-) -> u64
-    requires readable { Readable costs (held_sources table places path) }
-    requires two_rows { TwoRows costs.n (length totals.old) (length pivots.old) }
-    requires place_lt_n { (place < costs.n) × (t ≡ trail place) × (2 ≤ t) × (t < 10) × (base % 4 ≡ 0) × (size % 4 ≡ 0) × (base + size ≤ costs.n) × BlockClosed t base size }
-    requires some_row { SomeRow place costs.n base size totals.old pivots.old }
-    ensures { MakesRow place (place + 1) (next (lent_costs costs table places path) place early) costs.n base size 0 base size (2 ^ t * size) totals pivots result }
-{
-    if costs.by != BY_PATH {
-        return table_row(
-            costs, table, places, path, totals, pivots, place, t, early, base, size,
-        );
-    }
-    if early {
-        path_row(
-            costs, table, places, path, totals, pivots, place, t, true, base, size,
-        )
-    } else {
-        path_row(
-            costs, table, places, path, totals, pivots, place, t, false, base, size,
-        )
-    }
 }

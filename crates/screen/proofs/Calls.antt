@@ -10,22 +10,23 @@ use lib.ListN.{length, get_or, take, drop, take-append-drop}
 use lib.Pow.{pow_pos}
 use lib.Seq.{get_or-take, length-take-le, drop_at}
 use Rattle.base.specs.Refusal.{wrong_total, no_such_fork}
-use Rattle.base.specs.Outcome.{Outcome, gives, and_then, number, over}
+use Rattle.std.specs.Prelude.{Result, Ok}
+use Rattle.base.specs.declared.Refusal.{Refusal}
+use Rattle.base.specs.Outcome.{Outcome, gives, refuses, and_then, number, over}
 use Rattle.base.specs.Size.{max_k}
-use Rattle.base.proofs.Outcome.{passed, number-first, number-giving, over-at, over-front, over-long}
+use Rattle.base.proofs.Numbered.{Numbered, refusal}
+use Rattle.base.proofs.Outcome.{passed, number-first, number-giving, done-good, over-at, over-front, over-long}
 use Rattle.stop.specs.declared.Stop.{Stop}
-use Rattle.path.specs.declared.Head.{Head}
 use Rattle.path.specs.Path.{Path, path, read_path, any_size}
-use Rattle.path.specs.Reading.{path_given}
-use Rattle.path.proofs.JudgeLaws.{path-good}
 use Rattle.path.proofs.Inverse.{accepted-of, read_same, read-once}
+use Rattle.path.proofs.Numbers.{path-numbered}
 use Rattle.times.specs.Table.{entry_of}
 use Rattle.tree.specs.Total.{total}
 use Rattle.orders.specs.Allowed.{forks_of, judge_order}
 use Rattle.orders.specs.Lent.{order_in, JudgedOrder}
 use Rattle.orders.specs.Same.{alike}
 use Rattle.orders.proofs.Allowed.{judge-good, judged-good}
-use Rattle.orders.proofs.Calls.{done-number}
+use Rattle.orders.proofs.Calls.{only-ok}
 use Rattle.orders.proofs.Lent.{holds-order}
 use Rattle.orders.proofs.Same.{alike_same, same_alike}
 use Rattle.groups.specs.Exchange.{exchange_fork}
@@ -34,18 +35,10 @@ use Rattle.group_sums.specs.Travel.{inner_travel, sums_of}
 use Rattle.group_sums.specs.Between.{between, move_into, sum_by}
 use Rattle.group_sums.proofs.Travel.{travel-root, travel-other, length-sums_of, sums-zero, sums-fork}
 use Rattle.group_sums.proofs.Adds.{sums-add, sum_by-take}
-use Rattle.screen.specs.declared.RecordsMade.{RecordsMade}
-use Rattle.screen.specs.declared.RecordsMade.TheVariants.{Made, Refused}
 use Rattle.screen.specs.Records.{records_of, with_sums, judge_records, is_fork, fork_exchanged}
-use Rattle.screen.specs.Screen.{screen_room, group_sums, exchange_records, said, SumsAreMade, ForkIsExchanged}
+use Rattle.screen.specs.Screen.{screen_room, group_sums, exchange_records, SumsAreMade, ForkIsExchanged}
 use Rattle.screen.proofs.Records.{fork-in, in-fork}
-use Rattle.screen.proofs.Screen.{room-good, room-long, room-sound}
-
--- an answer that says 'made'
-pub only-made : (r : RecordsMade) → said r ≡ gives tt → r ≡ Made
-unfolding said
-only-made Made e = refl
-only-made (Refused n) e = let z : ◌≡◌ {A = ℕ} 0 1 = cc in absurd (omega arith)
+use Rattle.screen.proofs.Screen.{room-good, room-long, room-numbered}
 
 -- what stood at the front of a buffer, written back over what was written there
 over-back : (n : ℕ) (a b x : List ℕ) → length x ≡ n → n ≤ length a → b ≡ over x a → over (take n a) b ≡ a
@@ -57,24 +50,26 @@ module _ (bytes : List ℕ) (highest version k : ℕ) (ss : List Stop) (means : 
   -- ---- what an answer tells, and when a call is accepted
 
   -- a call whose path is not refused reads that path, whatever version its caller knows, and what it tests in the head passes
-  pub path-of : (h : ℕ) (test : ℕ → Outcome Unit) → ((j : ℕ) → number (test j) ≡ 0 → test j ≡ gives tt) → number (read_path bytes h test) ≡ 0
+  pub path-of : (h : ℕ) (test : ℕ → Outcome Unit) → ((j : ℕ) → Numbered (test j)) → number (read_path bytes h test) ≡ 0
       → (read_path bytes h test ≡ gives (path version k ss)) × (test k ≡ gives tt)
-  path-of h test sound z =
-      let x : Head = path_given (read_path bytes h test) in
-      let p = path-good bytes h test sound x refl z in
-      let same = read-once bytes h highest test any_size x.version version x.k k _ ss p.reads means in
-      let j : x.k ≡ k = ap (λ (q : Path). q.k) same in
-      (p.reads ∙ ap gives same, rw j at p.takes)
+  path-of h test numbered z = by (read_path bytes h test) refl z (path-numbered bytes h test numbered)
+    where
+      by : (o : Outcome Path) → read_path bytes h test ≡ o → number o ≡ 0 → Numbered o → (o ≡ gives (path version k ss)) × (test k ≡ gives tt)
+      by (gives q) e n i =
+          let same = read-once bytes h highest test any_size q.version version q.k k q.stops ss e means in
+          let j : q.k ≡ k = ap (λ (p : Path). p.k) same in
+          (ap gives same, rw j at (accepted-of bytes h test q.version q.k q.stops e).takes)
+      by (refuses n) e z (refusal m i) = let first = i.first in absurd (omega arith)
 
-  pub means-of : (h : ℕ) (test : ℕ → Outcome Unit) → ((j : ℕ) → number (test j) ≡ 0 → test j ≡ gives tt) → number (read_path bytes h test) ≡ 0
+  pub means-of : (h : ℕ) (test : ℕ → Outcome Unit) → ((j : ℕ) → Numbered (test j)) → number (read_path bytes h test) ≡ 0
       → read_path bytes h any_size ≡ gives (path version k ss)
-  means-of h test sound z = read_same bytes h test any_size version k ss (path-of h test sound z).0 refl
+  means-of h test numbered z = read_same bytes h test any_size version k ss (path-of h test numbered z).0 refl
 
   -- for an order and sums the buffers are long enough
   path-is : (order sums : ℕ) → number (read_path bytes highest (screen_room order sums)) ≡ 0
       → (read_path bytes highest (screen_room order sums) ≡ gives (path version k ss)) × (2 ^ k ≤ order) × (2 ^ k ≤ sums)
   path-is order sums z =
-      let w = path-of highest (screen_room order sums) (room-sound order sums) z in
+      let w = path-of highest (screen_room order sums) (room-numbered order sums) z in
       let l = room-long order sums k (ap number w.1) in
       (w.0, l.0, l.1)
 
@@ -90,10 +85,10 @@ module _ (bytes : List ℕ) (highest version k : ℕ) (ss : List Stop) (means : 
     pub long : 2 ^ k ≤ length before
     pub left : sums ≡ over (sums_of (entry_of ss) k (order_in k order)) before
 
-  pub when-made : (order before sums : List ℕ) → SumsAreMade bytes highest order before sums Made → SumsOf order before sums
-  unfolding said group_sums
+  pub when-made : (order before sums : List ℕ) → SumsAreMade bytes highest order before sums (Ok tt) → SumsOf order before sums
+  unfolding group_sums
   when-made order before sums p =
-      let z : number (group_sums bytes highest order (length before)) ≡ 0 = done-number (group_sums bytes highest order (length before)) p.said in
+      let z : number (group_sums bytes highest order (length before)) ≡ 0 = done-good (group_sums bytes highest order (length before)) p.said in
       let w = path-is (length order) (length before) (number-first (read_path bytes highest (screen_room (length order) (length before))) _ z) in
       let o : List ℕ = order_in k order in
       let g = judged-good k o (sym (number-giving (sums_of (entry_of ss) k) (judge_order k o)) ∙ rw w.0 at z) in
@@ -103,13 +98,13 @@ module _ (bytes : List ℕ) (highest version k : ℕ) (ss : List Stop) (means : 
         left = rw (w.0, judge-good k o g.0 g.1) at p.left;
       }
 
-  pub made-when : (order before sums : List ℕ) (r : RecordsMade) → JudgedOrder k order → 2 ^ k ≤ length before → SumsAreMade bytes highest order before sums r
-      → (r ≡ Made) × (sums ≡ over (sums_of (entry_of ss) k (order_in k order)) before)
+  pub made-when : (order before sums : List ℕ) (r : Result Unit Refusal) → JudgedOrder k order → 2 ^ k ≤ length before → SumsAreMade bytes highest order before sums r
+      → (r ≡ Ok tt) × (sums ≡ over (sums_of (entry_of ss) k (order_in k order)) before)
   unfolding group_sums
   made-when order before sums r j long p =
       let w = path-when (length order) (length before) j.long long in
       let g = judge-good k (order_in k order) j.below j.allowed in
-      (only-made r (rw (w, g) at p.said), rw (w, g) at p.left)
+      (only-ok r (rw (w, g) at p.said), rw (w, g) at p.left)
 
   -- the second was accepted exactly for records that pass and a fork, and left the exchanged order and its sums
   pub record Exchanged (fork : ℕ) (order sums order' sums' : List ℕ) : Type 0 where
@@ -133,10 +128,10 @@ module _ (bytes : List ℕ) (highest version k : ℕ) (ss : List Stop) (means : 
     unfolding judge_records with_sums
     records-pass j e = rw (judge-good k (order_in k order) j.below j.allowed, same_alike _ _ e)
 
-    pub when-exchanged : ForkIsExchanged bytes highest fork order sums order' sums' Made → Exchanged fork order sums order' sums'
-    unfolding said exchange_records judge_records with_sums fork_exchanged
+    pub when-exchanged : ForkIsExchanged bytes highest fork order sums order' sums' (Ok tt) → Exchanged fork order sums order' sums'
+    unfolding exchange_records judge_records with_sums fork_exchanged
     when-exchanged p =
-        let z : number (exchange_records bytes highest fork order sums) ≡ 0 = done-number (exchange_records bytes highest fork order sums) p.said in
+        let z : number (exchange_records bytes highest fork order sums) ≡ 0 = done-good (exchange_records bytes highest fork order sums) p.said in
         let w = path-is (length order) (length sums) (number-first (read_path bytes highest (screen_room (length order) (length sums))) _ z) in
         let y : number (and_then (judge_records (entry_of ss) k order sums) (fork_exchanged (entry_of ss) k fork)) ≡ 0 = sym (ap number (by-records w.0)) ∙ z in
         let x : number (judge_records (entry_of ss) k order sums) ≡ 0 = number-first (judge_records (entry_of ss) k order sums) (fork_exchanged (entry_of ss) k fork) y in
@@ -157,21 +152,21 @@ module _ (bytes : List ℕ) (highest version k : ℕ) (ss : List Stop) (means : 
           left_sums = p.left_sums ∙ rw is;
         }
 
-    pub exchanged-when : (r : RecordsMade) → JudgedOrder k order → 2 ^ k ≤ length sums → take (2 ^ k) sums ≡ sums_of (entry_of ss) k (order_in k order)
+    pub exchanged-when : (r : Result Unit Refusal) → JudgedOrder k order → 2 ^ k ≤ length sums → take (2 ^ k) sums ≡ sums_of (entry_of ss) k (order_in k order)
         → 1 ≤ fork → fork < 2 ^ k → ForkIsExchanged bytes highest fork order sums order' sums' r
-        → (r ≡ Made) × Exchanged fork order sums order' sums'
+        → (r ≡ Ok tt) × Exchanged fork order sums order' sums'
     unfolding fork_exchanged
     exchanged-when r j long same a b p =
         let o : List ℕ = order_in k order in
         let is : exchange_records bytes highest fork order sums ≡ gives (records_of (entry_of ss) k (exchange_fork k o fork))
         = by-records (path-when (length order) (length sums) j.long long) ∙ rw (records-pass j same, fork-in k fork a b) in (
-          only-made r (p.said ∙ rw is),
+          only-ok r (p.said ∙ rw is),
           record { judged = j; long = long; same = same; above = a; below = b; left_order = p.left_order ∙ rw is; left_sums = p.left_sums ∙ rw is },
         )
 
   -- ---- the sums
 
-  module _ (order before sums : List ℕ) (call : SumsAreMade bytes highest order before sums Made) where
+  module _ (order before sums : List ℕ) (call : SumsAreMade bytes highest order before sums (Ok tt)) where
     made : SumsOf order before sums
     made = when-made order before sums call
 
@@ -208,7 +203,7 @@ module _ (bytes : List ℕ) (highest version k : ℕ) (ss : List Stop) (means : 
 
   -- ---- an exchange
 
-  module _ (fork : ℕ) (order sums order' sums' : List ℕ) (call : ForkIsExchanged bytes highest fork order sums order' sums' Made) where
+  module _ (fork : ℕ) (order sums order' sums' : List ℕ) (call : ForkIsExchanged bytes highest fork order sums order' sums' (Ok tt)) where
     e : Exchanged fork order sums order' sums'
     e = when-exchanged fork order sums order' sums' call
 
@@ -236,8 +231,8 @@ module _ (bytes : List ℕ) (highest version k : ℕ) (ss : List Stop) (means : 
     sums-long = rw e.left_sums (over-long (2 ^ k) (sums_of (entry_of ss) k o') sums (length-sums_of (entry_of ss) k o'))
 
     -- 'the sums equal those made afresh': the first call with the new order is accepted, and leaves them
-    pub exchanged-afresh : (room made : List ℕ) (r : RecordsMade) → 2 ^ k ≤ length room → SumsAreMade bytes highest order' room made r
-        → (r ≡ Made) × (made ≡ over (take (2 ^ k) sums') room)
+    pub exchanged-afresh : (room made : List ℕ) (r : Result Unit Refusal) → 2 ^ k ≤ length room → SumsAreMade bytes highest order' room made r
+        → (r ≡ Ok tt) × (made ≡ over (take (2 ^ k) sums') room)
     exchanged-afresh room made r fits p =
         let w = made-when order' room made r order-passes fits p in
         (w.0, w.1 ∙ ap (λ (s : List ℕ). over s room) (sym new-sums))
@@ -260,8 +255,8 @@ module _ (bytes : List ℕ) (highest version k : ℕ) (ss : List Stop) (means : 
             ∙ sym (sums-fork (entry_of ss) k (order_in k order) (suc w) (omega arith) l) ∙ old (suc w) l
 
     -- the same fork exchanged again gives order and sums back
-    pub exchanged-back : (order'' sums'' : List ℕ) (r : RecordsMade) → ForkIsExchanged bytes highest fork order' sums' order'' sums'' r
-        → (r ≡ Made) × (order'' ≡ order) × (sums'' ≡ sums)
+    pub exchanged-back : (order'' sums'' : List ℕ) (r : Result Unit Refusal) → ForkIsExchanged bytes highest fork order' sums' order'' sums'' r
+        → (r ≡ Ok tt) × (order'' ≡ order) × (sums'' ≡ sums)
     exchanged-back order'' sums'' r p =
         let o : List ℕ = order_in k order in
         let w = exchanged-when fork order' sums' order'' sums'' r order-passes sums-long new-sums e.above e.below p in

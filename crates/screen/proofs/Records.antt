@@ -8,10 +8,10 @@ use lib.Dec.{leb, ltb}
 use lib.ListN.{length, take}
 use borrow.Author.Tests.{le-leb, leb-true, lt-ltb, ltb-true}
 use Rattle.base.specs.Refusal.{wrong_total, no_such_fork}
-use Rattle.base.specs.Outcome.{Outcome, gives, refuses, and_then, number}
+use Rattle.base.specs.Outcome.{Outcome, gives, refuses, and_then, done, number}
 use Rattle.base.specs.Size.{max_k, stop_count}
 use Rattle.base.proofs.Bools.{both}
-use Rattle.base.proofs.Outcome.{passed, refused, number-first}
+use Rattle.base.proofs.Outcome.{passed, number-first, done-good, done-refused}
 use Rattle.base.proofs.Size.{stop_count-pow}
 use Rattle.orders.specs.Allowed.{is_allowed, judge_order}
 use Rattle.orders.specs.Lent.{order_in, lent_order, JudgedOrder}
@@ -43,9 +43,9 @@ module _ (t : ℕ → ℕ → ℕ) (k : ℕ) (order sums : List ℕ) where
   records-fit n e = lent_same k order (leb n (length sums)) (leb (2 ^ k) (length sums)) (λ h. ap (λ x. leb x (length sums)) (e ∙ stop_count-pow k h))
 
   -- a refused order
-  pub records-refused : (r : ℕ) → r ≡ number order_judged → (r ≡ 0 → ⊥) → lent_records t k order sums ≡ refuses r
+  pub records-refused : (n : ℕ) → refuses n ≡ done order_judged → lent_records t k order sums ≡ refuses n
   unfolding lent_records
-  records-refused r e f = rw (refused order_judged r e f)
+  records-refused n e = rw (done-refused order_judged n e)
 
   -- one that is not
   pub records-order : number order_judged ≡ 0 → JudgedOrder k order × (2 ^ k ≤ length sums)
@@ -77,6 +77,9 @@ module _ (t : ℕ → ℕ → ℕ) (k : ℕ) (order sums : List ℕ) where
       let s = passed (alike (take (2 ^ k) sums) (sums_of t k (order_in k order))) wrong_total _ (omega arith) rest in
       record { judged = w.0; long = w.1; same = alike_same _ _ s.holds; accepted = records-good w.0 w.1 s.holds }
 
+  pub records-done : gives tt ≡ done (lent_records t k order sums) → GoodRecords t k order sums
+  records-done e = records-judged (done-good (lent_records t k order sums) e)
+
 -- ---- a fork
 
 pub fork-out : (k v : ℕ) → (1 ≤ v → v < 2 ^ k → ⊥) → is_fork k v ≡ false
@@ -98,8 +101,8 @@ module _ (t : ℕ → ℕ → ℕ) (k fork : ℕ) (order sums : List ℕ) where
   abbrev pub exchanged : Outcome Records
   exchanged = and_then (lent_records t k order sums) (fork_exchanged t k fork)
 
-  pub exchange-refused : (r : ℕ) → r ≡ number (lent_records t k order sums) → (r ≡ 0 → ⊥) → exchanged ≡ refuses r
-  exchange-refused r e f = rw (refused (lent_records t k order sums) r e f)
+  pub exchange-refused : (n : ℕ) → refuses n ≡ done (lent_records t k order sums) → exchanged ≡ refuses n
+  exchange-refused n e = rw (done-refused (lent_records t k order sums) n e)
 
   pub exchange-out : GoodRecords t k order sums → (1 ≤ fork → fork < 2 ^ k → ⊥) → exchanged ≡ refuses no_such_fork
   unfolding fork_exchanged

@@ -1,14 +1,14 @@
 -- The sums after an exchange: a fork's sum is made anew from its sides, which are right, and then only the forks above it are left.
 use mathlib.Core.Path.{◌≡◌, refl, sym, ap, ◌∙◌}
 use mathlib.Core.Bool.{true}
-use mathlib.Core.List.{List}
+use mathlib.Core.List.{List, ◌++◌}
 use mathlib.Core.Logic.{◌≢◌}
 use Prim.Native.Nat.{ℕ, zero, suc, ◌+◌, ◌*◌, ◌-◌, ◌/◌, ◌^◌, ◌≤◌, ◌<◌}
 use native.Mathlib.Nat.{div-one}
 use native.Mathlib.Omega.{arith}
-use lib.ListN.{length, get_or, set, take, drop, take-append-drop}
+use lib.ListN.{length, get_or, set, take, drop, take-append-drop, length-drop}
 use lib.Pow.{pow_pos, shr_le}
-use lib.Seq.{get_or-set_same, get_or-set_other, get_or-take}
+use lib.Seq.{get_or-set_same, get_or-set_other, get_or-take, length-take-le}
 use Rattle.base.specs.Outcome.{over}
 use Rattle.base.proofs.Outcome.{over-at, over-front}
 use Rattle.tree.specs.Neighbour.{reach, reach_of}
@@ -23,12 +23,12 @@ use Rattle.groups.proofs.Exchange.{exchange-allowed, length-exchange}
 use Rattle.groups.proofs.Sides.{fork-swaps}
 use Rattle.group_sums.specs.Travel.{inner_travel, sums_of}
 use Rattle.group_sums.specs.Between.{between, move_into, sum_by}
-use Rattle.group_sums.specs.Swaps.{swap_to}
+use Rattle.group_sums.specs.Swaps.{halves_swapped}
 use Rattle.group_sums.proofs.Travel.{travel-other, sums-zero, sums-fork}
 use Rattle.group_sums.proofs.Between.{between-pos, between-lt, between-reach, between-up, between-kept}
 use Rattle.group_sums.proofs.InPlace.{swap-exchanges}
 use Rattle.screen.specs.Local.{place_above, Updated}
-use Rattle.screen.proofs.Order.{Short, by-sides, travel-fits, within-set, within-whole}
+use Rattle.screen.proofs.Order.{Short, few, by-sides, travel-fits, within-set, within-whole}
 
 -- after fork v is exchanged, only the sums of v and of the forks above it are not those of the new order
 pub updated_none : (t : ℕ → ℕ → ℕ) (k : ℕ) (o sums : List ℕ) (v : ℕ) → is_allowed k o ≡ true → 1 ≤ v → v < 2 ^ k → 2 ^ k ≤ length sums
@@ -107,14 +107,33 @@ module _ (k : ℕ) (order : List ℕ) (j : JudgedOrder k order) (v : ℕ) (low :
   unfolding o
   block-fits = omega (arith, start, half, (fork-swaps k o j.allowed v low high).fits, j.long)
 
-  module _ (order' : List ℕ) (swapped : order' ≡ swap_to (p - r) r order r) where
+  -- the place and half the group are small
+  pub place-few : p + r ≤ 2048
+  unfolding o
+  place-few = omega (arith, half-before, found, between-lt k o j.allowed v low high, few k order j)
+
+  -- the block is so long, and so is what is put back in its place
+  pub block-is : p + r - (p - r) ≡ 2 * r
+  block-is = omega (arith, half-before)
+
+  pub block-long : length (take (p + r - (p - r)) (drop (p - r) order)) ≡ 2 * r
+  block-long = rw block-is (length-take-le (2 * r) (drop (p - r) order) (rw (length-drop (p - r) order) (omega (arith, block-fits))))
+
+  module _ (block' : List ℕ) (swapped : block' ≡ drop r (take (p + r - (p - r)) (drop (p - r) order)) ++ take r (take (p + r - (p - r)) (drop (p - r) order))) where
+    abbrev pub order' : List ℕ
+    order' = take (p - r) order ++ (block' ++ drop (p + r - (p - r)) (drop (p - r) order))
+
+    is-swapped : order' ≡ halves_swapped (p - r) r order
+    unfolding halves_swapped
+    is-swapped = rw (swapped, block-is)
+
     -- the halves swapped make the exchanged order
     pub now-exchanged : order' ≡ over (exchange_fork k (order_in k order) v) order
     unfolding o
     now-exchanged =
-        swapped
+        is-swapped
         ∙ rw (start, half)
-        (ap (λ (l : List ℕ). swap_to (group_start k o v) (half_size k v) l (half_size k v)) (sym (take-append-drop (2 ^ k) order))
+        (ap (λ (l : List ℕ). halves_swapped (group_start k o v) (half_size k v) l) (sym (take-append-drop (2 ^ k) order))
         ∙ swap-exchanges k o (drop (2 ^ k) order) v j.allowed low high)
         ∙ sym (over-at (2 ^ k) (exchange_fork k o v) order (length-exchange k o (2 ^ v)))
 

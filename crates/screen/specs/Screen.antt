@@ -1,16 +1,15 @@
 -- What the two calls come to: 'One call makes them from a path and an order; another, given the path too, exchanges one fork and updates
 -- order and sums.'
-use Rattle.std.specs.Prelude.{◌≡◌, List, ℕ, ◌^◌, leb, length}
+use Rattle.std.specs.Prelude.{◌≡◌, List, ℕ, ◌^◌, leb, length, Result}
 use Rattle.base.specs.Refusal.{wrong_size}
-use Rattle.base.specs.Outcome.{Outcome, gives, refuses, need, and_then, giving, done, after}
+use Rattle.base.specs.declared.Refusal.{Refusal}
+use Rattle.base.specs.Outcome.{Outcome, gives, need, and_then, giving, done, said, after}
 use Rattle.base.specs.Buffer.{Unsigned, SharedUnsigned, at_entry, at_exit, contents}
 use Rattle.path.specs.Path.{read_path}
 use Rattle.times.specs.Table.{entry_of}
 use Rattle.orders.specs.Allowed.{judge_order}
 use Rattle.orders.specs.Lent.{order_in}
 use Rattle.group_sums.specs.Travel.{sums_of}
-use Rattle.screen.specs.declared.RecordsMade.{RecordsMade}
-use Rattle.screen.specs.declared.RecordsMade.TheVariants.{Made, Refused}
 use Rattle.screen.specs.Records.{Records, judge_records, fork_exchanged}
 
 -- 'tests all its lent lengths in the head': an order and sums of at least n places each
@@ -36,26 +35,21 @@ exchange_records bytes highest fork order sums =
     and_then (read_path bytes highest (screen_room (length order) (length sums))) (λ p.
     and_then (judge_records (entry_of p.stops) p.k order sums) (fork_exchanged (entry_of p.stops) p.k fork))
 
--- what an answer says
-unfoldable pub said : RecordsMade → Outcome Unit
-said Made = gives tt
-said (Refused n) = refuses n
-
 -- the promise of the first call: the answer, and the lent sums before and after
-pub record SumsAreMade (bytes : List ℕ) (highest : ℕ) (order before afterwards : List ℕ) (r : RecordsMade) : Type 0 where
+pub record SumsAreMade (bytes : List ℕ) (highest : ℕ) (order before afterwards : List ℕ) (r : Result Unit Refusal) : Type 0 where
   pub said : said r ≡ done (group_sums bytes highest order (length before))
   pub left : afterwards ≡ after (group_sums bytes highest order (length before)) (λ sums. sums) before
 
 -- the promise of the second: the answer, and the lent order and sums before and after
-pub record ForkIsExchanged (bytes : List ℕ) (highest fork : ℕ) (order sums order' sums' : List ℕ) (r : RecordsMade) : Type 0 where
+pub record ForkIsExchanged (bytes : List ℕ) (highest fork : ℕ) (order sums order' sums' : List ℕ) (r : Result Unit Refusal) : Type 0 where
   pub said : said r ≡ done (exchange_records bytes highest fork order sums)
   pub left_order : order' ≡ after (exchange_records bytes highest fork order sums) (λ made. made.order) order
   pub left_sums : sums' ≡ after (exchange_records bytes highest fork order sums) (λ made. made.sums) sums
 
 -- the same of the parameters of each call
-abbrev pub MakesSums : SharedUnsigned → ℕ → SharedUnsigned → Unsigned → RecordsMade → Type 0
+abbrev pub MakesSums : SharedUnsigned → ℕ → SharedUnsigned → Unsigned → Result Unit Refusal → Type 0
 MakesSums bytes highest order sums r = SumsAreMade (contents bytes) highest (contents order) (at_entry sums) (at_exit sums) r
 
-abbrev pub ExchangesFork : SharedUnsigned → ℕ → ℕ → Unsigned → Unsigned → RecordsMade → Type 0
+abbrev pub ExchangesFork : SharedUnsigned → ℕ → ℕ → Unsigned → Unsigned → Result Unit Refusal → Type 0
 ExchangesFork bytes highest fork order sums r =
     ForkIsExchanged (contents bytes) highest fork (at_entry order) (at_entry sums) (at_exit order) (at_exit sums) r

@@ -23,12 +23,10 @@ pub fn place_between(k: u16, v: usize, order: &[u16]) -> usize
     ensures { result ≡ between k (order_in k order.now) v }
 {
     let n = stop_count(k);
-    let mut p = 1;
-    while p < n {
+    for p in 1..n {
         if fork_between(k, p, order[p]) == v {
             return p;
         }
-        p += 1;
     }
-    p
+    n
 }

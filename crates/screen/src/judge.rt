@@ -1,77 +1,42 @@
 // What comes before the calls write: the path with the places of what is lent, and for an exchange the records and the fork.
-ghost use Rattle.std.specs.Prelude.{◌≡◌, min};
-ghost use Rattle.base.specs.Outcome.{refuses, number, and_then};
+ghost use Rattle.std.specs.Prelude.{◌≡◌, IfOk};
+ghost use Rattle.base.specs.Outcome.{and_then, giving, done, said};
+ghost use Rattle.path.specs.Bytes.{heading_of};
 ghost use Rattle.path.specs.Path.{read_path};
-ghost use Rattle.path.specs.Reading.{head_given, path_given};
-ghost use Rattle.times.specs.InPath.{time_in};
+ghost use Rattle.path.specs.Reading.{heading};
 ghost use Rattle.screen.specs.Records.{lent_records, fork_exchanged};
 ghost use Rattle.screen.specs.Screen.{places_room};
+ghost use Rattle.screen.specs.Times.{times_of};
 
 use crate::judge_records;
-use base::{NO_SUCH_FORK, WRONG_SIZE, stop_count};
-use path::{Head, judge_body, judge_head};
+use base::{Refusal, stop_count};
+use path::{PathBytes, judge_head};
 
-// The answer of a refused path.
-fn no_path(refused: u16) -> Head
-    ensures { result ≡ head_given (refuses refused) }
+// A path whose stops and end are judged, where each buffer that is lent with it has at least so many places; fewer than n are 8.
+pub fn judge_path(bytes: &[u8], highest: u16, places: usize) -> Result<PathBytes<'_>, Refusal>
+    ensures path { giving heading_of (said result) ≡ giving heading (read_path bytes.now highest (places_room places)) }
+    ensures same { IfOk result (λ p. p.bytes.now ≡ bytes.now) }
 {
-    Head {
-        refused,
-        version: 0,
-        k: 0,
+    let path = judge_head(bytes, highest)?;
+    if places < stop_count(path.k) {
+        return Err(Refusal::WrongSize);
     }
+    path.judge()?;
+    Ok(path)
 }
 
-// The smaller of two counts.
-pub fn fewer(a: usize, b: usize) -> usize
-    ensures { result ≡ min a b }
-{
-    if a < b {
-        return a;
-    }
-    b
-}
-
-// The version and k of a path, where each buffer that is lent with it has at least so many places, or the first refusal: fewer than n are 8.
-pub fn judge_path(bytes: &[u8], highest: u16, places: usize) -> Head
-    ensures { result ≡ path_given (read_path bytes.now highest (places_room places)) }
-{
-    let head = judge_head(bytes, highest);
-    let version = head.version;
-    let k = head.k;
-    if head.refused != 0 {
-        return head;
-    }
-    if places < stop_count(k) {
-        return no_path(WRONG_SIZE);
-    }
-    let refused = judge_body(bytes, version, k);
-    if refused != 0 {
-        return no_path(refused);
-    }
-    head
-}
-
-// 0, or the refusal of an exchange of one fork: that of the records, or a fork that is not 1 to n - 1 (14).
+// The refusal of an exchange of one fork: that of the records, or a fork that is not 1 to n - 1 (14).
 pub fn judge_exchange(
-    bytes: &[u8],
-    version: u16,
-    k: u16,
+    path: PathBytes<'_>,
     fork: u16,
     order: &[u16],
     sums: &[u64],
-) -> u16
-    ensures { result ≡ number (and_then (lent_records (time_in version bytes.now) k order.now sums.now) (fork_exchanged (time_in version bytes.now) k fork)) }
+) -> Result<(), Refusal>
+    ensures { said result ≡ done (and_then (lent_records (times_of path.entry) path.entry.k order.now sums.now) (fork_exchanged (times_of path.entry) path.entry.k fork)) }
 {
-    let faulty = judge_records(bytes, version, k, order, sums);
-    if faulty != 0 {
-        return faulty;
+    judge_records(path, order, sums)?;
+    if fork == 0 || stop_count(path.k) <= fork as usize {
+        return Err(Refusal::NoSuchFork);
     }
-    if fork == 0 {
-        return NO_SUCH_FORK;
-    }
-    if stop_count(k) <= fork as usize {
-        return NO_SUCH_FORK;
-    }
-    0
+    Ok(())
 }

@@ -1,22 +1,23 @@
 // Sums by the sides of forks: a fork's sum is those of its two sides and the move between them. Lent sums are the order's exactly if place 0
 // holds 0 and that is so of every fork, in whatever sequence the forks are looked at.
 ghost use Rattle.std.specs.Prelude.{◌≡◌, ◌+◌, ◌≤◌, ◌<◌, ◌^◌, eqb, length, get_or, take};
-ghost use Rattle.times.specs.InPath.{time_in};
 ghost use Rattle.orders.specs.Lent.{order_in, JudgedOrder};
 ghost use Rattle.orders.specs.Same.{alike};
 ghost use Rattle.group_sums.specs.Travel.{sums_of};
 ghost use Rattle.group_sums.specs.Between.{move_into, side_sum, sum_by};
+ghost use Rattle.screen.specs.Times.{times_of};
 
 use crate::forks::fork_between;
 use base::stop_count;
+use path::PathBytes;
 use times::time_in;
 
 // The time of the move into place p.
-pub fn move_into(bytes: &[u8], version: u16, p: usize, order: &[u16]) -> u64
+pub fn move_into(path: PathBytes<'_>, p: usize, order: &[u16]) -> u64
     requires { (0 < p) × (p < length order.now) }
-    ensures { result ≡ move_into (time_in version bytes.now) order.now p }
+    ensures { result ≡ move_into (times_of path.entry) order.now p }
 {
-    time_in(bytes, version, order[p - 1] as usize, order[p] as usize) as u64
+    time_in(path, order[p - 1] as usize, order[p] as usize) as u64
 }
 
 // The sum of a side among those of n stops: a stop has none.
@@ -45,32 +46,24 @@ fn adds_up(n: usize, sums: &[u64], v: usize, time: u64) -> bool
 {
     let first = side_sum(n, sums, 2 * v);
     let second = side_sum(n, sums, 2 * v + 1);
-    let sum = sums[v];
-    if sum < first {
-        return false;
-    }
-    if sum - first < second {
-        return false;
-    }
-    sum - first - second == time
+    let left = sums[v].checked_sub(first);
+    left.and_then(|left| left.checked_sub(second)) == Some(time)
 }
 
 // Whether the first n sums are those of an allowed order.
-pub fn sums_agree(bytes: &[u8], version: u16, k: u16, order: &[u16], sums: &[u64]) -> bool
-    requires { JudgedOrder k order.now × (2 ^ k ≤ length sums.now) }
-    ensures { result ≡ alike (take (2 ^ k) sums.now) (sums_of (time_in version bytes.now) k (order_in k order.now)) }
+pub fn sums_agree(path: PathBytes<'_>, order: &[u16], sums: &[u64]) -> bool
+    requires { JudgedOrder path.k order.now × (2 ^ path.k ≤ length sums.now) }
+    ensures { result ≡ alike (take (2 ^ path.entry.k) sums.now) (sums_of (times_of path.entry) path.entry.k (order_in path.entry.k order.now)) }
 {
-    let n = stop_count(k);
+    let n = stop_count(path.k);
     if sums[0] != 0 {
         return false;
     }
-    let mut p = 1;
-    while p < n {
-        let v = fork_between(k, p, order[p]);
-        if !adds_up(n, sums, v, move_into(bytes, version, p, order)) {
+    for p in 1..n {
+        let v = fork_between(path.k, p, order[p]);
+        if !adds_up(n, sums, v, move_into(path, p, order)) {
             return false;
         }
-        p += 1;
     }
     true
 }

@@ -1,34 +1,27 @@
 // One fork exchanged in an order and in its sums. The blocks of the fork's two sides change places; then the fork's sum and that of each fork
 // above it are made anew, from their sides and one move each. No other sum is touched.
-ghost use Rattle.std.specs.Prelude.{◌≡◌, ◌+◌, ◌*◌, ◌≤◌, ◌<◌, ◌^◌, length, take};
+ghost use Rattle.std.specs.Prelude.{◌≡◌, ◌*◌, ◌≤◌, ◌<◌, ◌^◌, ◌++◌, length, take, drop};
 ghost use Rattle.base.specs.Outcome.{over};
-ghost use Rattle.times.specs.InPath.{time_in};
 ghost use Rattle.orders.specs.Lent.{order_in, JudgedOrder};
 ghost use Rattle.groups.specs.Exchange.{exchange_fork};
 ghost use Rattle.group_sums.specs.Travel.{sums_of};
 ghost use Rattle.group_sums.specs.Between.{between};
-ghost use Rattle.group_sums.specs.Swaps.{swap_to};
+ghost use Rattle.screen.specs.Times.{times_of};
 ghost use Rattle.screen.specs.Local.{place_above, Updated};
 
 use crate::forks::place_between;
 use crate::sums::{move_into, sum_by};
 use base::stop_count;
+use path::PathBytes;
 use tree::reach;
 
-// Swaps the halves, of `half` places each, of the block from place a on.
-fn swap_halves(a: usize, half: usize, order: &mut [u16])
-    requires { a + 2 * half ≤ length order.old }
-    ensures { order.new ≡ swap_to a half order.old half }
+// Swaps the halves, of `half` places each, of a block.
+fn swap_halves(half: usize, block: &mut [u16])
+    requires { length block.old ≡ 2 * half }
+    ensures { block.new ≡ drop half block.old ++ take half block.old }
 {
-    let mut x = 0;
-    while x < half {
-        let i = a + x;
-        let j = a + half + x;
-        let first = order[i];
-        order[i] = order[j];
-        order[j] = first;
-        x += 1;
-    }
+    let (first, second) = block.split_at_mut(half);
+    first.swap_with_slice(second);
 }
 
 // The place between the sides of the fork above the one between whose sides is place p.
@@ -41,24 +34,17 @@ fn place_above(p: usize) -> usize
 }
 
 // Makes the sums of fork v, between whose sides is place p, and of the forks above it anew.
-fn update_sums(
-    bytes: &[u8],
-    version: u16,
-    k: u16,
-    v: usize,
-    p: usize,
-    order: &[u16],
-    sums: &mut [u64],
-)
-    requires { JudgedOrder k order.now × (1 ≤ v) × (v < 2 ^ k) × (p ≡ between k (order_in k order.now) v)
-        × Updated (time_in version bytes.now) k (order_in k order.now) sums.old v sums.old }
-    ensures { sums.new ≡ over (sums_of (time_in version bytes.now) k (order_in k order.now)) sums.old }
+fn update_sums(path: PathBytes<'_>, v: usize, p: usize, order: &[u16], sums: &mut [u64])
+    requires { JudgedOrder path.k order.now × (1 ≤ v) × (v < 2 ^ path.k) × (p ≡ between path.k (order_in path.k order.now) v)
+        × Updated (times_of path) path.k (order_in path.k order.now) sums.old v sums.old }
+    ensures { sums.new ≡ over (sums_of (times_of path.entry) path.entry.k (order_in path.entry.k order.now)) sums.old }
 {
-    let n = stop_count(k);
+    let n = stop_count(path.k);
     let mut u = v;
     let mut at = p;
+    // The fork is halved in each step, which no range has.
     while 0 < u {
-        let sum = sum_by(n, sums, u, move_into(bytes, version, at, order));
+        let sum = sum_by(n, sums, u, move_into(path, at, order));
         sums[u] = sum;
         at = place_above(at);
         u = u / 2;
@@ -66,14 +52,14 @@ fn update_sums(
 }
 
 // Exchanges fork v in an allowed order and in its sums.
-pub fn exchange(bytes: &[u8], version: u16, k: u16, v: usize, order: &mut [u16], sums: &mut [u64])
-    requires { JudgedOrder k order.old × (1 ≤ v) × (v < 2 ^ k) × (2 ^ k ≤ length sums.old)
-        × (take (2 ^ k) sums.old ≡ sums_of (time_in version bytes.now) k (order_in k order.old)) }
-    ensures { (order.new ≡ over (exchange_fork k (order_in k order.old) v) order.old)
-        × (sums.new ≡ over (sums_of (time_in version bytes.now) k (exchange_fork k (order_in k order.old) v)) sums.old) }
+pub fn exchange(path: PathBytes<'_>, v: usize, order: &mut [u16], sums: &mut [u64])
+    requires { JudgedOrder path.k order.old × (1 ≤ v) × (v < 2 ^ path.k) × (2 ^ path.k ≤ length sums.old)
+        × (take (2 ^ path.k) sums.old ≡ sums_of (times_of path) path.k (order_in path.k order.old)) }
+    ensures { (order.new ≡ over (exchange_fork path.entry.k (order_in path.entry.k order.old) v) order.old)
+        × (sums.new ≡ over (sums_of (times_of path.entry) path.entry.k (exchange_fork path.entry.k (order_in path.entry.k order.old) v)) sums.old) }
 {
-    let p = place_between(k, v, order);
+    let p = place_between(path.k, v, order);
     let half = reach(p);
-    swap_halves(p - half, half, order);
-    update_sums(bytes, version, k, v, p, order, sums);
+    swap_halves(half, &mut order[p - half..p + half]);
+    update_sums(path, v, p, order, sums);
 }

@@ -7,9 +7,11 @@ use lib.Signed.{mag}
 use mir.Syntax.{w64}
 use mir.Val.{SFits, to_z, of_z}
 use mir.ValLaws.{to_z_pos, to_z-of_z}
-use Rattle.base.specs.Outcome.{Outcome, refuses}
+use Rattle.std.specs.Prelude.{Result, Ok, Err, MatchResult, IsOkAnd}
+use Rattle.base.specs.declared.Refusal.{Refusal}
+use Rattle.base.specs.Outcome.{Outcome, refuses, said}
 use Rattle.base.proofs.Numbered.{IsNumber, Numbered, given, refusal}
-use Rattle.signed.specs.Result.{negative, largest}
+use Rattle.signed.specs.Result.{nothing, itself, negative, largest, signed}
 use Rattle.signed.specs.Result as result
 use Rattle.signed.proofs.AtMost.{kept-below}
 
@@ -47,3 +49,12 @@ not-value (suc n) c i e = pos-ne-negsuc c n (sym e)
 pub sign-tells : {A : Type 0} (o : Outcome A) (n c : ℕ) → Numbered o → o ≡ refuses n → negative n ≡ pos c → ⊥
 sign-tells o n c (given a) e = absurd (let z : ◌≡◌ {A = ℕ} 0 1 = cc in omega arith)
 sign-tells o n c (refusal m i) e = let same : m ≡ n = cc in not-value n c (rw same at i)
+
+-- ---- a value made into a number before it is answered
+
+pub made-number : {A : Type 0} (number : A → ℕ) (gave : A → ℕ → Type 0) (a : Result A Refusal) (b : Result ℕ Refusal) → ((x : A) (n : ℕ) → gave x n → n ≡ number x)
+    → MatchResult a (λ x. IsOkAnd b (gave x)) (λ e. b ≡ Err e) → signed itself (said b) ≡ signed number (said a)
+unfolding signed
+made-number number gave (Ok x) (Ok n) f m = ap result.given (f x n m)
+made-number number gave (Ok x) (Err e) f m = absurd m
+made-number number gave (Err e) b f m = rw m

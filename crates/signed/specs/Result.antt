@@ -22,3 +22,11 @@ negative number = neg_ℤ (pos number)
 unfoldable pub signed : {A : Type 0} → (number : A → ℕ) → Outcome A → ℤ
 signed number (gives a) = given (number a)
 signed number (refuses n) = negative n
+
+-- a value that says nothing but that the call was done: 0
+abbrev pub nothing : Unit {0} → ℕ
+nothing u = 0
+
+-- a value that is a number: a count of bytes, or a total
+abbrev pub itself : ℕ → ℕ
+itself n = n

@@ -5,7 +5,10 @@
 #![tactic(auto)]
 
 ghost use Rattle.std.specs.Prelude.{◌≡◌};
-ghost use Rattle.signed.specs.Result.{at_most, negative, given};
+ghost use Rattle.base.specs.Outcome.{said};
+ghost use Rattle.signed.specs.Result.{nothing, itself, negative, given, signed};
+
+use base::Refusal;
 
 // The largest signed 64-bit number.
 const LARGEST: u64 = 9_223_372_036_854_775_807;
@@ -17,19 +20,26 @@ pub fn refusal(number: u16) -> i64
     -(number as i64)
 }
 
-// A number, or the most where it is more.
-pub fn at_most(most: u64, v: u64) -> u64
-    ensures { result ≡ at_most most v }
-{
-    if v < most {
-        return v;
-    }
-    most
-}
-
 // A value; one that is too large counts as the largest.
 pub fn value(v: u64) -> i64
     ensures { result ≡ given v }
 {
-    at_most(LARGEST, v) as i64
+    v.min(LARGEST) as i64
+}
+
+// A call's answer: its value, or the number of its refusal made negative.
+pub fn answer(answered: Result<u64, Refusal>) -> i64
+    ensures { result ≡ signed itself (said answered) }
+{
+    match answered {
+        Ok(v) => value(v),
+        Err(reason) => refusal(reason.number()),
+    }
+}
+
+// The answer of a call that gives nothing beside what it writes: 0, or the number of its refusal made negative.
+pub fn done(answered: Result<(), Refusal>) -> i64
+    ensures { result ≡ signed nothing (said answered) }
+{
+    answer(answered.map(|()| 0))
 }

@@ -71,8 +71,8 @@ module _ (bytes bytes₂ : List ℕ) (highest highest₂ version version₂ k a 
   -- 'the returned order is the same and its total grows by n−1 times the amount'
   pub path-slower : PlannedPath bytes highest k o c → PlannedPath bytes₂ highest₂ k o₂ c₂ → Grows k o o₂ c c₂ (order_moves k * a)
   path-slower p q =
-      let first = shortest-is bytes highest version k ss means (take (2 ^ k) o) c (p.promise.claim p.version k c refl) in
-      let second = shortest-is bytes₂ highest₂ version₂ k (slower_stops a ss) means₂ (take (2 ^ k) o₂) c₂ (q.promise.claim q.version k c₂ refl) in
+      let first = shortest-is bytes highest version k ss means (take (2 ^ k) o) c (p.promise.claim (record { version = p.version; k = k; total = c }) refl) in
+      let second = shortest-is bytes₂ highest₂ version₂ k (slower_stops a ss) means₂ (take (2 ^ k) o₂) c₂ (q.promise.claim (record { version = q.version; k = k; total = c₂ }) refl) in
       let s = open-slower a (entry_of ss) (entry_of (slower_stops a ss)) k (stops-slower k a ss (path-good bytes highest any_size version k ss means).count) in
       record { same = second.0 ∙ s.0 ∙ sym first.0; more = omega (arith, second.1, s.1, first.1) }
 

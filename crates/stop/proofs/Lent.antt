@@ -13,7 +13,7 @@ use lib.Seq.{get_or-drop}
 use lib.IntN.{ℤ, pos}
 use borrow.Author.Tests.{leb-true}
 use Rattle.base.specs.Refusal.{out_of_range}
-use Rattle.base.specs.Outcome.{gives, number, over}
+use Rattle.base.specs.Outcome.{gives, refuses, done, number, over}
 use Rattle.base.proofs.Bools.{and_left, and_right}
 use Rattle.stop.specs.declared.Stop.{Stop}
 use Rattle.stop.specs.Stop.{in_range, zero_stop}
@@ -159,12 +159,12 @@ one-bad zero f i h b = absurd (not-suc-le-zero h)
 one-bad (suc n) f zero h b = rw b
 one-bad (suc n) f (suc i) h b = rw (one-bad n (λ j. f (suc j)) i (le_of_suc-le-suc h) b, and-false)
 
--- the judgement of a list: 0 where each stop is in range, 6 where one is not
-pub judge-good : (n : ℕ) (f : ℕ → Stop) → ((i : ℕ) → i < n → in_range (f i) ≡ true) → 0 ≡ number (judge_all (tabulate n f))
+-- the judgement of a list: nothing where each stop is in range, 6 where one is not
+pub judge-good : (n : ℕ) (f : ℕ → Stop) → ((i : ℕ) → i < n → in_range (f i) ≡ true) → gives tt ≡ done (judge_all (tabulate n f))
 unfolding judge_all
 judge-good n f g = rw (all-good n f g)
 
-pub judge-bad : (n : ℕ) (f : ℕ → Stop) (i : ℕ) → i < n → in_range (f i) ≡ false → out_of_range ≡ number (judge_all (tabulate n f))
+pub judge-bad : (n : ℕ) (f : ℕ → Stop) (i : ℕ) → i < n → in_range (f i) ≡ false → refuses out_of_range ≡ done (judge_all (tabulate n f))
 unfolding judge_all
 judge-bad n f i h b = rw (one-bad n f i h b)
 

@@ -1,12 +1,12 @@
 -- Stops in lent buffers of numbers: the coordinates x, y, z of stop 0, then those of stop 1 and so on in one, the speeds in another,
 -- the blends in a third, the dwells (M-102) in a fourth ('k = 1, one speed place'). A definition takes the buffers as one record.
 use Rattle.std.specs.Prelude.{◌≡◌, Bool, true, ◌&&◌, List, [], ◌∷◌, map, ℕ, ◌+◌, ◌*◌, ◌≤◌, leb, length, get_or, ℤ, pos}
-use Rattle.std.specs.Borrow.{Bor}
 use Rattle.base.specs.Refusal.{out_of_range, wrong_size}
 use Rattle.base.specs.Outcome.{Outcome, gives, need, over}
-use Rattle.base.specs.Buffer.{Unsigned, Signed, SharedUnsigned, SharedSigned, at_entry, at_exit, contents}
+use Rattle.base.specs.Buffer.{Unsigned, Signed, at_entry, at_exit}
 use Rattle.base.specs.Lists.{tabulate}
 use Rattle.stop.specs.declared.Stop.{Stop}
+use Rattle.stop.specs.declared.Stops.{Stops}
 use Rattle.stop.specs.Stop.{in_range, coordinate}
 
 -- what the buffers hold
@@ -19,9 +19,9 @@ pub record LentStops : Type 0 where
 abbrev pub buffers : List ℤ → List ℕ → List ℕ → List ℕ → LentStops
 buffers coords speeds blends dwells = record { coords = coords; speeds = speeds; blends = blends; dwells = dwells }
 
--- what they hold, of parameters that are only read, as an `ensures` has them
-abbrev pub lent_stops : SharedSigned → SharedUnsigned → SharedUnsigned → SharedUnsigned → LentStops
-lent_stops coords speeds blends dwells = buffers (contents coords) (contents speeds) (contents blends) (contents dwells)
+-- what they hold, of buffers that are only read
+abbrev pub lent : Stops → LentStops
+lent s = buffers s.coords.now s.speeds.now s.blends.now s.dwells.now
 
 -- and of buffers that the call may write: when it begins
 abbrev pub stops_before : Signed → Unsigned → Unsigned → Unsigned → LentStops
@@ -30,10 +30,6 @@ stops_before coords speeds blends dwells = buffers (at_entry coords) (at_entry s
 -- and when it returns
 abbrev pub left_stops : Signed → Unsigned → Unsigned → Unsigned → LentStops
 left_stops coords speeds blends dwells = buffers (at_exit coords) (at_exit speeds) (at_exit blends) (at_exit dwells)
-
--- what they hold, of the parameters as a `requires` has them
-abbrev pub held_stops : Bor (List ℤ) → Bor (List ℕ) → Bor (List ℕ) → Bor (List ℕ) → LentStops
-held_stops coords speeds blends dwells = buffers coords.now speeds.now blends.now dwells.now
 
 -- the coordinates of stop i; a number beyond a buffer's end counts as 0
 unfoldable pub point_at : List ℤ → ℕ → List ℤ

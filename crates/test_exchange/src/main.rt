@@ -7,7 +7,10 @@ mod call;
 mod large;
 mod small;
 
-fn main() {
-    small::run();
-    large::run();
+use std::io;
+
+// All exchanges.
+fn main(rt: HostRuntime) -> io::Result<()> {
+    small::run(&rt)?;
+    large::run(&rt)
 }

@@ -1,57 +1,76 @@
 // One call, and its line.
 
+ghost use Rattle.std.specs.Prelude.{◌≤◌, ◌<◌};
+
+use crate::lent::{Lengths, Lent};
+use crate::table;
 use filled::ListPlanned;
-use test_support::{count, write};
+use std::io;
+use test_support::part;
+use test_support::write::{self, Bytes};
 
-// k, the table's rule, and the lent lengths.
-fn title(k: u16, rule: u32, table: &[u32], list: &[u16], bits: &[u8], work: &[u64]) {
-    write::value(b"k ", test_support::wide(k));
-    write::value(b", rule ", test_support::wide32(rule));
-    write::value(b", lent ", table.len() as u64);
-    write::number(list.len() as u64);
-    write::number(bits.len() as u64);
-    write::number(work.len() as u64);
+// A byte for each of the most stops and one more: 1 for each of the first n stops that is in the set, 0 for each other, 9 for what comes after.
+fn empties_of(n: usize, empty: u64) -> [u8; 65] {
+    let mut empties = [9u8; 65];
+    let mut rest = empty;
+    for byte in part::first_mut(&mut empties, n) {
+        *byte = (rest % 2) as u8;
+        rest /= 2;
+    }
+    empties
 }
 
-// Whether every lent place still holds 77.
-fn untouched(list: &[u16], bits: &[u8], work: &[u64]) -> bool {
-    let stops = count::all_numbers(list, 77);
-    let forks = count::all_bytes(bits, 77);
-    let totals = count::totals(work, 77) == work.len();
-    stops && forks && totals
+// Plans for k by a table of n rows by a rule, a set of empty stops among the first n, and these changes of its bytes, and writes the line.
+pub fn call<R: Print + AllocGlobal>(
+    rt: &R,
+    k: u16,
+    rule: u32,
+    n: usize,
+    empty: u64,
+    changes: u64,
+    lengths: Lengths,
+) -> io::Result<()>
+    requires { 0 < n }
+{
+    let table = table::make(rt.alloc(), n, rule, lengths.table)?;
+    let mut empties = empties_of(n, empty);
+    part::change(&mut empties, changes);
+    let empties = part::first(&empties, lengths.empties);
+    let mut lent = Lent::new(rt.alloc(), lengths)?;
+    print!(rt; "k {k}, rule {rule}, lent {}", lengths.table)?;
+    print!(rt; " {} {} {}", lengths.list, lengths.bits, lengths.work)?;
+    print!(rt; ", bytes{}", Bytes(empties))?;
+    plan(rt, k, &table, empties, &mut lent)
 }
 
-// A list that was planned: its total and length, and what is lent.
-fn done(total: u64, length: usize, list: &[u16], bits: &[u8], work: &[u64]) {
-    write::value(b": 0, total ", total);
-    write::value(b", length ", length as u64);
-    write::numbers(b", list", list);
-    write::bytes(b", bits", bits);
-    write::value(b", 0 in ", count::totals(work, 0) as u64);
-    write::value(b", 77 in ", count::totals(work, 77) as u64);
-    io::write_all(1, b"\n");
-}
-
-// The answer.
-fn answer(planned: ListPlanned, list: &[u16], bits: &[u8], work: &[u64]) {
-    match planned {
-        ListPlanned::Done(total, length) => done(total, length, list, bits, work),
-        ListPlanned::Refused(number) => write::refusal(number, untouched(list, bits, work)),
+// Plans, and writes the answer: the total, the list's length, and what is lent.
+fn plan(rt: &impl Print, k: u16, table: &[u32], empties: &[u8], lent: &mut Lent) -> io::Result<()> {
+    let list = &mut lent.list;
+    match filled::plan_filled(k, table, empties, list, &mut lent.bits, &mut lent.work) {
+        Ok(ListPlanned { total, length }) => {
+            println!(rt; ": 0, total {total}, length {length}{lent}")
+        }
+        Err(refusal) => write::refusal(rt, refusal, lent.untouched()),
     }
 }
 
-// One call, and its line.
-pub fn example(
-    k: u16,
-    rule: u32,
-    table: &[u32],
-    empties: &[u8],
-    list: &mut [u16],
-    bits: &mut [u8],
-    work: &mut [u64],
-) {
-    title(k, rule, table, list, bits, work);
-    write::bytes(b", bytes", empties);
-    let planned = filled::plan_filled(k, table, empties, list, bits, work);
-    answer(planned, list, bits, work);
+// n = 2^k stops, k up to 6.
+fn stops(k: u16) -> usize
+    ensures { (0 < result) × (result ≤ 64) }
+{
+    match k {
+        0 => 1,
+        1 => 2,
+        2 => 4,
+        3 => 8,
+        4 => 16,
+        5 => 32,
+        _ => 64,
+    }
+}
+
+// Plans for k, up to 6, with more than enough lent.
+pub fn planned<R: Print + AllocGlobal>(rt: &R, k: u16, rule: u32, empty: u64) -> io::Result<()> {
+    let n = stops(k);
+    call(rt, k, rule, n, empty, 0, Lengths::enough(n))
 }

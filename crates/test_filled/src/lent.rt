@@ -1,14 +1,15 @@
-// A call with what is lent of given lengths.
+// What a call is lent.
 
-ghost use Rattle.std.specs.Prelude.{◌≤◌, ◌<◌};
+ghost use Rattle.std.specs.Prelude.{◌≤◌};
 
-use crate::call::example;
-use crate::table::fill;
-use test_support::part;
+use std::alloc::{AllocError, Global};
+use std::fmt::{self, Display, Formatter};
+use test_support::count;
+use test_support::write::{Bytes, Numbers};
 
-// How much is lent: at most 4,097 numbers of the table, 65 bytes, 65 places of the list, 9 bytes of fork bits, 4,097 numbers of work space.
+// How much is lent of the table, the bytes, at most 65, the list, the fork bits and the work space.
 #[derive(Clone, Copy)]
-pub struct Lent {
+pub struct Lengths {
     pub table: usize,
     pub empties: usize,
     pub list: usize,
@@ -16,65 +17,51 @@ pub struct Lent {
     pub work: usize,
 }
 
-// Puts 1 for each of the first n stops that is in the set, 0 for each other, and leaves what comes after.
-fn put_empties(bytes: &mut [u8], n: usize, empty: u64) {
-    let mut rest = empty;
-    for i in 0..n {
-        part::put(bytes, i, (rest % 2) as u8);
-        rest /= 2;
+impl Lengths {
+    // What n stops need, and one more of each but the table.
+    pub fn enough(n: usize) -> Lengths
+        requires { n ≤ 64 }
+    {
+        Lengths {
+            table: n * n,
+            empties: n + 1,
+            list: n + 1,
+            bits: n.div_ceil(8) + 1,
+            work: n * n + 1,
+        }
     }
 }
 
-// Plans for k by a table of n rows by a rule, a set of empty stops among the first n, and these changes of its bytes.
-pub fn call(k: u16, rule: u32, n: usize, empty: u64, changes: u64, lent: Lent)
-    requires { 0 < n }
-{
-    let mut table = [0u32; 4097];
-    let mut empties = [9u8; 65];
-    let mut list = [77u16; 65];
-    let mut bits = [77u8; 9];
-    let mut work = [77u64; 4097];
-    fill(&mut table, n, rule);
-    put_empties(&mut empties, n, empty);
-    part::change(&mut empties, changes);
-    let table = part::times(&table, lent.table);
-    let empties = part::bytes(&empties, lent.empties);
-    let list = part::numbers_mut(&mut list, lent.list);
-    let bits = part::bytes_mut(&mut bits, lent.bits);
-    let work = part::totals_mut(&mut work, lent.work);
-    example(k, rule, table, empties, list, bits, work)
+// What a call writes.
+#[derive(Drop)]
+pub struct Lent {
+    pub list: Vec<u16>,
+    pub bits: Vec<u8>,
+    pub work: Vec<u64>,
 }
 
-// n = 2^k stops, k up to 6.
-fn stops(k: u16) -> usize
-    ensures { (0 < result) × (result ≤ 64) }
-{
-    match k {
-        0 => 1,
-        1 => 2,
-        2 => 4,
-        3 => 8,
-        4 => 16,
-        5 => 32,
-        _ => 64,
+impl Lent {
+    // Buffers of these lengths, in which every place holds 77.
+    pub fn new(alloc: Global, lengths: Lengths) -> Result<Lent, AllocError> {
+        Ok(Lent {
+            list: vec![in alloc; 77; lengths.list]?,
+            bits: vec![in alloc; 77; lengths.bits]?,
+            work: vec![in alloc; 77; lengths.work]?,
+        })
+    }
+
+    // Whether every place still holds 77.
+    pub fn untouched(&self) -> bool {
+        count::all(&self.list, 77) && count::all(&self.bits, 77) && count::all(&self.work, 77)
     }
 }
 
-// What n stops need, and one more of each but the table.
-fn enough(n: usize) -> Lent
-    requires { n ≤ 64 }
-{
-    Lent {
-        table: n * n,
-        empties: n + 1,
-        list: n + 1,
-        bits: (n + 7) / 8 + 1,
-        work: n * n + 1,
+// Every place of the list and the bits, and the 0s and 77s of the work space.
+impl Display for Lent {
+    fn fmt<W: fmt::Write>(&self, f: &mut Formatter<W>) -> fmt::Result {
+        write!(f, ", list{}", Numbers(&self.list))?;
+        write!(f, ", bits{}", Bytes(&self.bits))?;
+        write!(f, ", 0 in {}", count::of(&self.work, 0))?;
+        write!(f, ", 77 in {}", count::of(&self.work, 77))
     }
-}
-
-// Plans for k, up to 6, with more than enough lent.
-pub fn planned(k: u16, rule: u32, empty: u64) {
-    let n = stops(k);
-    call(k, rule, n, empty, 0, enough(n))
 }

@@ -9,47 +9,47 @@ mod lent;
 mod refused;
 mod table;
 
-use lent::planned;
+use call::planned;
+use std::io;
 
 // Each tray of k in turn: bit i of its number, which is below `trays`, says that stop i is empty.
-fn every(k: u16, trays: u64, rule: u32) {
+fn every<R: Print + AllocGlobal>(rt: &R, k: u16, trays: u64, rule: u32) -> io::Result<()> {
     for empty in 0..trays {
-        planned(k, rule, empty);
+        planned(rt, k, rule, empty)?;
     }
+    Ok(())
 }
 
-// Trays of sixteen stops.
-fn sixteen(rule: u32) {
-    planned(4, rule, 0);
-    planned(4, rule, 0x0ff0);
-    planned(4, rule, 0xa5c3);
-    planned(4, rule, 0x00ff);
-    planned(4, rule, 0xfeff);
-    planned(4, rule, 0xffff);
-}
-
-// Trays of the most stops.
-fn most(rule: u32) {
-    planned(6, rule, 0);
-    planned(6, rule, 0x0123_4567_89ab_cdef);
-    planned(6, rule, 0xffff_fffe_ffff_7fff);
-    planned(6, rule, 0xffff_ffff_ffff_ffff);
-}
+// k, and a tray of it: sixteen stops, and the most stops.
+const TRAYS: [(u16, u64); 10] = [
+    (4, 0),
+    (4, 0x0ff0),
+    (4, 0xa5c3),
+    (4, 0x00ff),
+    (4, 0xfeff),
+    (4, 0xffff),
+    (6, 0),
+    (6, 0x0123_4567_89ab_cdef),
+    (6, 0xffff_fffe_ffff_7fff),
+    (6, 0xffff_ffff_ffff_ffff),
+];
 
 // All of them by one rule: every tray of up to eight stops, and some of more.
-fn ruled(rule: u32) {
-    every(0, 2, rule);
-    every(1, 4, rule);
-    every(2, 16, rule);
-    every(3, 256, rule);
-    sixteen(rule);
-    most(rule);
+fn ruled<R: Print + AllocGlobal>(rt: &R, rule: u32) -> io::Result<()> {
+    every(rt, 0, 2, rule)?;
+    every(rt, 1, 4, rule)?;
+    every(rt, 2, 16, rule)?;
+    every(rt, 3, 256, rule)?;
+    for (k, empty) in TRAYS {
+        planned(rt, k, rule, empty)?;
+    }
+    Ok(())
 }
 
-fn main() {
-    ruled(0);
-    ruled(1);
-    ruled(2);
-    ruled(3);
-    refused::run();
+// All calls.
+fn main(rt: HostRuntime) -> io::Result<()> {
+    for rule in 0..4 {
+        ruled(&rt, rule)?;
+    }
+    refused::run(&rt)
 }

@@ -6,9 +6,9 @@ use test_support::part;
 pub fn stops(count: usize, digits: u64) -> [u16; 17] {
     let mut order = [0u16; 17];
     let mut rest = digits;
-    for i in 0..count {
-        part::put_number(&mut order, count - 1 - i, (rest % 16) as u16);
-        rest = rest / 16;
+    for stop in part::first_mut(&mut order, count).iter_mut().rev() {
+        *stop = (rest % 16) as u16;
+        rest /= 16;
     }
     order
 }
@@ -23,28 +23,21 @@ fn x_of(stop: usize) -> u32 {
     }
 }
 
-// How far two numbers are apart.
-fn apart(a: u32, b: u32) -> u32 {
-    if a < b { b - a } else { a - b }
-}
-
 // Entry i of the table of a word: `fifty`, that of the 50 example; `pair`, 3 from 0 to 1 and 7 from 1 to 0; `rule`, numbers near the largest.
 fn entry(word: u8, i: usize) -> u32 {
-    match word {
-        b'f' => apart(x_of(i / 4), x_of(i % 4)),
-        b'r' => 4294967295 - (i % 1048576 * 37 % 101) as u32,
-        _ => match i {
-            1 => 3,
-            2 => 7,
-            _ => 9,
-        },
+    match (word, i) {
+        (b'f', _) => x_of(i / 4).abs_diff(x_of(i % 4)),
+        (b'r', _) => u32::MAX - (i % 1048576 * 37 % 101) as u32,
+        (_, 1) => 3,
+        (_, 2) => 7,
+        _ => 9,
     }
 }
 
 // Fills a table.
 pub fn fill(table: &mut [u32], word: u8) {
-    for i in 0..table.len() {
-        table[i] = entry(word, i);
+    for (i, time) in table.iter_mut().enumerate() {
+        *time = entry(word, i);
     }
 }
 
@@ -55,29 +48,27 @@ pub fn table(word: u8) -> [u32; 65] {
     table
 }
 
-// Puts the file of a word, and leaves the zeros after it: `fifty`, that of the 50 example, whose records begin at 0, 6, 26 and 31; `pair`, that
-// of 0, 1 with total 3, at 0, 6, 22 and 27; `one`, that of k = 0, at 0, 6, 20 and 25. In each the total lies at 10 and the stops at 18.
-fn put_file(file: &mut [u8], word: u8) {
-    match word {
-        b'f' => part::copy(
-            file,
-            b"\x04\x00\x04\x00\x02\x00\x12\x00\x05\x00\x32\x00\x00\x00\x00\x00\x00\x00\x02\x00\x03\x00\x01\x00\x00\x00\x03\x00\x06\x00\x06\x02\x00\x03\x00",
-        ),
-        b'p' => part::copy(
-            file,
-            b"\x04\x00\x04\x00\x01\x00\x0e\x00\x05\x00\x03\x00\x00\x00\x00\x00\x00\x00\x00\x00\x01\x00\x03\x00\x06\x00\x00\x02\x00\x03\x00",
-        ),
-        _ => part::copy(
-            file,
-            b"\x04\x00\x04\x00\x00\x00\x0c\x00\x05\x00\x00\x00\x00\x00\x00\x00\x00\x00\x00\x00\x03\x00\x06\x00\x00\x02\x00\x03\x00",
-        ),
-    }
-}
+// The file of the 50 example, whose records begin at 0, 6, 26 and 31. In each file the total lies at 10 and the stops at 18.
+const FIFTY: &[u8] =
+    b"\x04\x00\x04\x00\x02\x00\x12\x00\x05\x00\x32\x00\x00\x00\x00\x00\x00\x00\x02\x00\x03\x00\x01\x00\x00\x00\x03\x00\x06\x00\x06\x02\x00\x03\x00";
 
-// The file of a word after the changes.
+// That of 0, 1 with total 3, at 0, 6, 22 and 27.
+const PAIR: &[u8] =
+    b"\x04\x00\x04\x00\x01\x00\x0e\x00\x05\x00\x03\x00\x00\x00\x00\x00\x00\x00\x00\x00\x01\x00\x03\x00\x06\x00\x00\x02\x00\x03\x00";
+
+// That of k = 0, at 0, 6, 20 and 25.
+const ONE: &[u8] =
+    b"\x04\x00\x04\x00\x00\x00\x0c\x00\x05\x00\x00\x00\x00\x00\x00\x00\x00\x00\x00\x00\x03\x00\x06\x00\x00\x02\x00\x03\x00";
+
+// The file of a word, `fifty`, `pair` or else `one`, after the changes, and zeros after it.
 pub fn file(word: u8, changes: u64) -> [u8; 40] {
     let mut file = [0u8; 40];
-    put_file(&mut file, word);
+    let known = match word {
+        b'f' => FIFTY,
+        b'p' => PAIR,
+        _ => ONE,
+    };
+    part::copy(&mut file, known);
     part::change(&mut file, changes);
     file
 }

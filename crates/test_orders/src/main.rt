@@ -1,9 +1,6 @@
 // Runs the calls on orders, fork bits and order files on known numbers and bytes, and writes what each answered, one line to a call: the
 // refusal's number and whether every lent place is as it was, or 0, the values, and what every lent place then holds. Every lent place holds
 // 77 before.
-//
-// The cases stand on standard input, one to a line: a name, a colon, a word whose first letter says what is called, and what the function of that
-// word says. A line without a colon is a remark.
 
 #![tactic(auto)]
 
@@ -13,48 +10,31 @@ mod large;
 mod order;
 mod unsummed;
 
-use test_support::{count, text};
+use std::io;
+use test_support::cases::{self, Cases};
 
-// A word that calls nothing.
-fn no_call() {
-    io::write_all(1, b": no such call\n");
-}
+// The calls, between which nothing is kept.
+#[derive(Drop)]
+struct Calls;
 
-// What the word of a case calls.
-fn call(word: u8, line: &[u8]) {
-    match word {
-        b'b' => order::bits(line),
-        b'o' => order::order(line),
-        b't' => order::total(line),
-        b'w' => file::write(line),
-        b'r' => file::read(line),
-        b'a' => file::again(line),
-        b'u' => unsummed::read(line),
-        b'l' => large::call(line),
-        _ => no_call(),
-    }
-}
-
-// The answer to one case, after its name.
-fn run_case(line: &[u8]) {
-    let word = text::letter(line, 1);
-    if word == 0 {
-        return;
-    }
-    io::write_all(1, text::field(line, b':', 0));
-    call(word, line)
-}
-
-// The answers to all cases.
-fn run_cases(cases: &[u8]) {
-    for i in 0..count::bytes(cases, b'\n') {
-        run_case(text::field(cases, b'\n', i));
+impl Cases for Calls {
+    // A `match` on the letter stays: each arm is one call, and a table of functions would name the same letters beside them.
+    fn run<R: Print + AllocGlobal>(&mut self, rt: &R, letter: u8, line: &[u8]) -> io::Result<()> {
+        match letter {
+            b'b' => order::bits(rt, line),
+            b'o' => order::order(rt, line),
+            b't' => order::total(rt, line),
+            b'w' => file::write(rt, line),
+            b'r' => file::read(rt, line),
+            b'a' => file::again(rt, line),
+            b'u' => unsummed::read(rt, line),
+            b'l' => large::call(rt, line),
+            _ => println!(rt; ": no such call"),
+        }
     }
 }
 
 // Reads the cases and runs them.
-fn main() {
-    let mut cases = io::large_buffer();
-    let count = io::read_full(0, &mut cases);
-    run_cases(&cases[..count]);
+fn main(rt: HostRuntime) -> io::Result<()> {
+    cases::run_all(&rt, &mut Calls)
 }

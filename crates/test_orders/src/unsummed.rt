@@ -1,27 +1,17 @@
 // Order files read without a table: everything is judged but the total.
 
 use crate::known;
-use order_file::FileRead;
-use test_support::{count, part, text, write};
+use std::io;
+use test_support::write::{self, Numbers};
+use test_support::{count, part, text};
 
-// The answer to the reading of a file into this buffer.
-fn read_answer(read: FileRead, order: &[u16]) {
-    match read {
-        FileRead::Read { total } => {
-            write::value(b": 0, total ", total);
-            write::numbers(b", order", order);
-            io::write_all(1, b"\n");
-        }
-        FileRead::Refused(number) => write::refusal(number, count::all_numbers(order, 77)),
-    }
-}
-
-// `unsummed LENGTH CHANGES K PLACES`: the first so many bytes of the changed file of the 50 example, into at most 5 places.
-pub fn read(line: &[u8]) {
+// `unsummed LENGTH CHANGES K PLACES`: the first so many bytes of the changed file of the 50 example, into so many places.
+pub fn read<R: Print + AllocGlobal>(rt: &R, line: &[u8]) -> io::Result<()> {
     let file = known::file(b'f', text::hex(line, 3));
-    let mut order = [77u16; 5];
-    let order = part::numbers_mut(&mut order, text::size(line, 5));
-    let bytes = part::bytes(&file, text::size(line, 2));
-    let read = order_file::read_unsummed(text::short(line, 4), bytes, order);
-    read_answer(read, order)
+    let bytes = part::first(&file, text::size(line, 2));
+    let mut order = vec![in rt.alloc(); 77u16; text::size(line, 5)]?;
+    match order_file::read_unsummed(text::short(line, 4), bytes, &mut order) {
+        Ok(total) => println!(rt; ": 0, total {total}, order{}", Numbers(&order)),
+        Err(refusal) => write::refusal(rt, refusal, count::all(&order, 77)),
+    }
 }

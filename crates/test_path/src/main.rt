@@ -1,13 +1,10 @@
 // Runs the calls on paths, stops and travel times on known bytes and stops, and writes what each answered, one line to a call: the refusal's
 // number and whether every lent place is as it was, or 0, the values, and what every lent place then holds. Every lent place holds 77 before.
-//
-// The cases stand on standard input, one to a line: a name, a colon, a word whose first letter says what is called, and what the function of that
-// word says. A line without a colon is a remark.
 
 #![tactic(auto)]
 
-mod coords;
 mod large;
+mod lists;
 mod reading;
 mod rewriting;
 mod sample;
@@ -15,50 +12,33 @@ mod stops;
 mod table;
 mod writing;
 
-use test_support::{count, text};
+use std::io;
+use test_support::cases::{self, Cases};
 
-// A word that calls nothing.
-fn no_call() {
-    io::write_all(1, b": no such call\n");
-}
+// The calls, between which nothing is kept.
+#[derive(Drop)]
+struct Calls;
 
-// What the word of a case calls.
-fn call(word: u8, line: &[u8]) {
-    match word {
-        b'r' => reading::read(line),
-        b'w' => writing::write(line),
-        b'c' => rewriting::copy(line),
-        b's' => stops::stop(line),
-        b'm' => stops::moved(line),
-        b'b' => stops::between(line),
-        b't' => table::table(line),
-        b'p' => table::pair(line),
-        b'f' => table::from(line),
-        b'l' => large::call(line),
-        _ => no_call(),
-    }
-}
-
-// The answer to one case, after its name.
-fn run_case(line: &[u8]) {
-    let word = text::letter(line, 1);
-    if word == 0 {
-        return;
-    }
-    io::write_all(1, text::field(line, b':', 0));
-    call(word, line)
-}
-
-// The answers to all cases.
-fn run_cases(cases: &[u8]) {
-    for i in 0..count::bytes(cases, b'\n') {
-        run_case(text::field(cases, b'\n', i));
+impl Cases for Calls {
+    // A `match` on the letter stays: each arm is one call, and a table of functions would name the same letters beside them.
+    fn run<R: Print + AllocGlobal>(&mut self, rt: &R, letter: u8, line: &[u8]) -> io::Result<()> {
+        match letter {
+            b'r' => reading::read(rt, line),
+            b'w' => writing::write(rt, line),
+            b'c' => rewriting::copy(rt, line),
+            b's' => stops::stop(rt, line),
+            b'm' => stops::moved(rt, line),
+            b'b' => stops::between(rt, line),
+            b't' => table::table(rt, line),
+            b'p' => table::pair(rt, line),
+            b'f' => table::from(rt, line),
+            b'l' => large::call(rt, line),
+            _ => println!(rt; ": no such call"),
+        }
     }
 }
 
 // Reads the cases and runs them.
-fn main() {
-    let mut cases = io::large_buffer();
-    let count = io::read_full(0, &mut cases);
-    run_cases(&cases[..count]);
+fn main(rt: HostRuntime) -> io::Result<()> {
+    cases::run_all(&rt, &mut Calls)
 }

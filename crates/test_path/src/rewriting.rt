@@ -1,23 +1,29 @@
 // Path bytes written in another version.
 
 use crate::{sample, writing};
+use path::PathBytes;
+use std::io;
 use test_support::{part, text};
 
-// Writes these bytes in another version, and then the answer.
-pub fn rewrite(bytes: &[u8], version: u16, k: u16, wanted: u16, out: &mut [u8]) {
-    let written = path::rewrite_path(bytes, version, k, wanted, out);
-    writing::written_answer(written, out)
+// Writes a path's bytes in another version, to as many bytes of room, and then the answer.
+pub fn rewrite<R: Print + AllocGlobal>(
+    rt: &R,
+    path: PathBytes<'_>,
+    wanted: u16,
+    room: usize,
+) -> io::Result<()> {
+    let mut out = vec![in rt.alloc(); 77u8; room]?;
+    let written = path::rewrite_path(path, wanted, &mut out);
+    writing::answer(rt, written, &out)
 }
 
-// `copy PATH LENGTH CHANGES VERSION K WANTED ROOM`: at most 57 bytes of room.
-pub fn copy(line: &[u8]) {
+// `copy PATH LENGTH CHANGES VERSION K WANTED ROOM`
+pub fn copy<R: Print + AllocGlobal>(rt: &R, line: &[u8]) -> io::Result<()> {
     let bytes = sample::path(line);
-    let mut out = [77u8; 57];
-    rewrite(
-        part::bytes(&bytes, text::size(line, 3)),
-        text::short(line, 5),
-        text::short(line, 6),
-        text::short(line, 7),
-        part::bytes_mut(&mut out, text::size(line, 8)),
-    )
+    let path = PathBytes {
+        bytes: part::first(&bytes, text::size(line, 3)),
+        version: text::short(line, 5),
+        k: text::short(line, 6),
+    };
+    rewrite(rt, path, text::short(line, 7), text::size(line, 8))
 }

@@ -1,81 +1,64 @@
 // Stops made, and the times of moves.
 
-use crate::{coords, sample};
+use crate::sample;
+use path::PathBytes;
+use std::io;
 use stop::Stop;
-use test_support::{part, text, write};
-use times::MoveTime;
+use test_support::write::Numbers;
+use test_support::{part, text};
 
-// `stop X Y Z SPEED BLEND DWELL`
-pub fn stop(line: &[u8]) {
-    let at = [
-        coords::given(line, 2),
-        coords::given(line, 3),
-        coords::given(line, 4),
-    ];
-    let made = Stop::new(
-        at,
-        text::short(line, 5),
-        text::short(line, 6),
-        text::short(line, 7),
-    );
-    let s = made.stop;
-    let at = s.at;
-    write::value(b": ", test_support::wide(made.refused));
-    coords::list(b", stop", &at);
-    write::number(test_support::wide(s.speed));
-    write::number(test_support::wide(s.blend));
-    write::number(test_support::wide(s.dwell));
-    io::write_all(1, b"\n");
+// The coordinate in word i of a case, below 0 after a sign.
+pub fn coordinate(line: &[u8], i: usize) -> i32 {
+    let number = ((text::number(line, i) % 4294967296) as u32).cast_signed();
+    if text::letter(line, i) == b'-' {
+        return number.wrapping_neg();
+    }
+    number
 }
 
-// The stop from which a move leads, the first six numbers.
-fn from(line: &[u8]) -> Stop {
-    Stop {
-        at: [
-            coords::given(line, 2),
-            coords::given(line, 3),
-            coords::given(line, 4),
-        ],
-        speed: text::short(line, 5),
-        blend: text::short(line, 6),
-        dwell: text::short(line, 7),
+// `stop X Y Z SPEED BLEND DWELL`: a refused stop is written as zeros.
+pub fn stop(rt: &impl Print, line: &[u8]) -> io::Result<()> {
+    let asked = given(line, 2);
+    match Stop::new(asked.at, asked.speed, asked.blend, asked.dwell) {
+        Ok(stop) => {
+            print!(rt; ": 0, stop{}", Numbers(&stop.at))?;
+            println!(rt; " {} {} {}", stop.speed, stop.blend, stop.dwell)
+        }
+        Err(refusal) => println!(rt; ": {}, stop 0 0 0 0 0 0", refusal.number()),
     }
 }
 
-// The stop to which it leads, the last six.
-fn to(line: &[u8]) -> Stop {
+// The stop of the six numbers from word `first` on.
+fn given(line: &[u8], first: u8) -> Stop {
+    let i = usize::from(first);
     Stop {
         at: [
-            coords::given(line, 8),
-            coords::given(line, 9),
-            coords::given(line, 10),
+            coordinate(line, i),
+            coordinate(line, i + 1),
+            coordinate(line, i + 2),
         ],
-        speed: text::short(line, 11),
-        blend: text::short(line, 12),
-        dwell: text::short(line, 13),
+        speed: text::short(line, i + 3),
+        blend: text::short(line, i + 4),
+        dwell: text::short(line, i + 5),
     }
 }
 
 // `move X Y Z SPEED BLEND DWELL X Y Z SPEED BLEND DWELL`
-pub fn moved(line: &[u8]) {
-    let time = times::move_time(from(line), to(line));
-    match time {
-        MoveTime::Takes(time) => write::value(b": 0, time ", test_support::wide32(time)),
-        MoveTime::Refused(number) => write::value(b": ", test_support::wide(number)),
+pub fn moved(rt: &impl Print, line: &[u8]) -> io::Result<()> {
+    match times::move_time(given(line, 2), given(line, 8)) {
+        Ok(time) => println!(rt; ": 0, time {time}"),
+        Err(refusal) => println!(rt; ": {}", refusal.number()),
     }
-    io::write_all(1, b"\n");
 }
 
 // `between PATH LENGTH CHANGES VERSION FROM TO`
-pub fn between(line: &[u8]) {
+pub fn between(rt: &impl Print, line: &[u8]) -> io::Result<()> {
     let bytes = sample::path(line);
-    let path = part::bytes(&bytes, text::size(line, 3));
-    let time = times::time_in(
-        path,
-        text::short(line, 5),
-        text::size(line, 6),
-        text::size(line, 7),
-    );
-    write::value(b": time ", test_support::wide32(time));
-    io::write_all(1, b"\n");
+    let path = PathBytes {
+        bytes: part::first(&bytes, text::size(line, 3)),
+        version: text::short(line, 5),
+        k: 1,
+    };
+    let time = times::time_in(path, text::size(line, 6), text::size(line, 7));
+    println!(rt; ": time {time}")
 }

@@ -1,73 +1,130 @@
-// One call of the planner, and its line.
+// The calls of the planner, and their lines.
 
-use planner::{Foretold, Planned};
-use test_support::{count, write};
+use crate::lent::{Lengths, Lent};
+use crate::table;
+use base::Refusal;
+use planner::Planned;
+use std::alloc::{AllocError, Global};
+use std::fmt::{self, Display, Formatter};
+use std::io;
+use test_support::write::Numbers;
 
-// k and the table's rule.
-pub fn title(k: u16, rule: u32) {
-    write::value(b"k ", test_support::wide(k));
-    write::value(b", rule ", test_support::wide32(rule));
+// The calls that order stops: a plan, a round trip, and a plan where places cost extra.
+#[derive(Clone, Copy)]
+pub enum Call {
+    Plan,
+    Tour,
+    Places,
 }
 
-// The lent lengths.
-pub fn lengths(table: &[u32], order: &[u16], totals: &[u64], pivots: &[u16]) {
-    write::value(b", lent ", table.len() as u64);
-    write::number(order.len() as u64);
-    write::number(totals.len() as u64);
-    write::number(pivots.len() as u64);
+// The word of a call.
+impl Display for Call {
+    fn fmt<W: fmt::Write>(&self, f: &mut Formatter<W>) -> fmt::Result {
+        match self {
+            Call::Plan => write!(f, "plan"),
+            Call::Tour => write!(f, "tour"),
+            Call::Places => write!(f, "places"),
+        }
+    }
 }
 
-// A total, and the weighings that found it.
-fn found(total: u64, weighings: u64) {
-    write::value(b": 0, total ", total);
-    write::value(b" by ", weighings);
+// A call for k by tables of two rules, of which only `Places` has the second.
+#[derive(Clone, Copy)]
+pub struct Asked {
+    pub call: Call,
+    pub k: u16,
+    pub rule: u32,
+    pub extra: u32,
+}
+
+// A total, and by how many weighings a plan found it.
+#[derive(Clone, Copy)]
+pub struct Found {
+    pub total: u64,
+    pub weighings: Option<u64>,
+}
+
+impl Found {
+    // What a plan found.
+    fn planned(planned: Planned) -> Found {
+        Found {
+            total: planned.total,
+            weighings: Some(planned.weighings),
+        }
+    }
+
+    // The total of a tour, or where places cost extra.
+    fn total(total: u64) -> Found {
+        Found {
+            total,
+            weighings: None,
+        }
+    }
+}
+
+impl Asked {
+    // The call with these tables and buffers.
+    pub fn answer(self, table: &[u32], places: &[u32], lent: &mut Lent) -> Result<Found, Refusal> {
+        let order = &mut lent.order;
+        let totals = &mut lent.totals;
+        let pivots = &mut lent.pivots;
+        match self.call {
+            Call::Plan => planner::plan(self.k, table, order, totals, pivots).map(Found::planned),
+            Call::Tour => planner::tour(self.k, table, order, totals, pivots).map(Found::total),
+            Call::Places => {
+                planner::plan_places(self.k, table, places, order, totals, pivots).map(Found::total)
+            }
+        }
+    }
+
+    // The call with tables by its rules, and the buffers in `lent`.
+    pub fn by_rules(
+        self,
+        alloc: Global,
+        lengths: Lengths,
+        lent: &mut Lent,
+    ) -> Result<Result<Found, Refusal>, AllocError> {
+        let table = table::make(alloc, lengths.rows, self.rule, lengths.table)?;
+        let places = table::make(alloc, lengths.rows, self.extra, lengths.places)?;
+        Ok(self.answer(&table, &places, lent))
+    }
+
+    // The beginning of a line: the call, k, the tables' rules, and the lengths of the tables.
+    fn title(self, rt: &impl Print, lengths: Lengths) -> io::Result<()> {
+        let Asked { k, rule, extra, .. } = self;
+        let size = lengths.table;
+        match self.call {
+            Call::Plan => print!(rt; "k {k}, rule {rule}, lent {size}"),
+            Call::Tour => print!(rt; "tour k {k}, rule {rule}, lent {size}"),
+            Call::Places => {
+                let places = lengths.places;
+                print!(rt; "places k {k}, rules {rule} {extra}, lent {size} {places}")
+            }
+        }
+    }
+
+    // One call, and its line.
+    pub fn example<R: Print + AllocGlobal>(self, rt: &R, lengths: Lengths) -> io::Result<()> {
+        let mut lent = Lent::new(rt.alloc(), lengths)?;
+        let found = self.by_rules(rt.alloc(), lengths, &mut lent)?;
+        self.title(rt, lengths)?;
+        print!(rt; " {} {} {}", lengths.order, lengths.totals, lengths.pivots)?;
+        write_found(rt, found)?;
+        print!(rt; ", order{}", Numbers(&lent.order))?;
+        lent.work(rt)
+    }
 }
 
 // The number of a refusal, or 0, the total and the weighings.
-pub fn planned_answer(planned: Planned) {
-    match planned {
-        Planned::Done { total, weighings } => found(total, weighings),
-        Planned::Refused(refusal) => write::value(b": ", test_support::wide(refusal)),
+pub fn write_found(rt: &impl Print, found: Result<Found, Refusal>) -> io::Result<()> {
+    match found {
+        Ok(found) => {
+            print!(rt; ": 0, total {}", found.total)?;
+            match found.weighings {
+                Some(weighings) => print!(rt; " by {weighings}"),
+                None => Ok(()),
+            }
+        }
+        Err(refusal) => print!(rt; ": {}", refusal.number()),
     }
-}
-
-// Bytes of work space, and weighings.
-fn needed(bytes: u64, weighings: u64) {
-    write::value(b": bytes ", bytes);
-    write::value(b", weighings ", weighings);
-}
-
-// What k foretells, and its line.
-pub fn foretold(k: u16) {
-    write::value(b"k ", test_support::wide(k));
-    match planner::foretell(k) {
-        Foretold::Takes { bytes, weighings } => needed(bytes, weighings),
-        Foretold::Refused(refusal) => write::value(b": ", test_support::wide(refusal)),
-    }
-    io::write_all(1, b"\n");
-}
-
-// The 0s and 77s of the work space.
-pub fn work(totals: &[u64], pivots: &[u16]) {
-    write::value(b", 0 in ", count::totals(totals, 0) as u64);
-    write::number(count::numbers(pivots, 0) as u64);
-    write::value(b", 77 in ", count::totals(totals, 77) as u64);
-    write::number(count::numbers(pivots, 77) as u64);
-    io::write_all(1, b"\n");
-}
-
-// One call, and its line.
-pub fn example(
-    k: u16,
-    rule: u32,
-    table: &[u32],
-    order: &mut [u16],
-    totals: &mut [u64],
-    pivots: &mut [u16],
-) {
-    title(k, rule);
-    lengths(table, order, totals, pivots);
-    planned_answer(planner::plan(k, table, order, totals, pivots));
-    write::numbers(b", order", order);
-    work(totals, pivots);
 }

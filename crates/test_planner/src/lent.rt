@@ -1,23 +1,69 @@
-// A call with what is lent of given lengths.
+// What a call of the planner is lent.
 
 ghost use Rattle.std.specs.Prelude.{◌<◌};
 
-use crate::call::example;
-use crate::table::fill;
-use test_support::part;
+use std::alloc::{AllocError, Global};
+use std::io;
+use test_support::count;
 
-// Plans for k by a table of n rows by a rule, with a table, an order, totals and pivots of these lengths, at most 256, 18, 33 and 32.
-pub fn lent(k: u16, rule: u32, n: usize, size: usize, stops: usize, work: usize, more: usize)
-    requires { 0 < n }
-{
-    let mut table = [0u32; 256];
-    let mut order = [77u16; 18];
-    let mut totals = [77u64; 33];
-    let mut pivots = [77u16; 32];
-    fill(&mut table, n, rule);
-    let table = part::times(&table, size);
-    let order = part::numbers_mut(&mut order, stops);
-    let totals = part::totals_mut(&mut totals, work);
-    let pivots = part::numbers_mut(&mut pivots, more);
-    example(k, rule, table, order, totals, pivots)
+// The rows of the tables, and the length of each table and each buffer; only a call where places cost extra has a second table.
+#[derive(Clone, Copy)]
+pub struct Lengths {
+    pub rows: usize,
+    pub table: usize,
+    pub places: usize,
+    pub order: usize,
+    pub totals: usize,
+    pub pivots: usize,
+    ghost has_rows: { 0 < rows },
+}
+
+impl Lengths {
+    // More than enough for k, up to 4.
+    pub fn enough(k: u16) -> Lengths {
+        let (rows, order, totals, pivots) = match k {
+            0 => (1, 2, 3, 4),
+            1 => (2, 3, 4, 5),
+            2 => (4, 5, 10, 9),
+            3 => (8, 8, 16, 16),
+            _ => (16, 18, 33, 32),
+        };
+        Lengths {
+            rows,
+            table: rows * rows,
+            places: rows * rows,
+            order,
+            totals,
+            pivots,
+        }
+    }
+}
+
+// An order, and work space.
+#[derive(Drop)]
+pub struct Lent {
+    pub order: Vec<u16>,
+    pub totals: Vec<u64>,
+    pub pivots: Vec<u16>,
+}
+
+impl Lent {
+    // Buffers of these lengths, in which every place holds 77.
+    pub fn new(alloc: Global, lengths: Lengths) -> Result<Lent, AllocError> {
+        Ok(Lent {
+            order: vec![in alloc; 77; lengths.order]?,
+            totals: vec![in alloc; 77; lengths.totals]?,
+            pivots: vec![in alloc; 77; lengths.pivots]?,
+        })
+    }
+
+    // Ends a line with the 0s and 77s of the work space.
+    pub fn work(&self, rt: &impl Print) -> io::Result<()> {
+        let totals = count::of(&self.totals, 0);
+        let pivots = count::of(&self.pivots, 0);
+        print!(rt; ", 0 in {totals} {pivots}")?;
+        let totals = count::of(&self.totals, 77);
+        let pivots = count::of(&self.pivots, 77);
+        println!(rt; ", 77 in {totals} {pivots}")
+    }
 }

@@ -2,6 +2,8 @@
 
 ghost use Rattle.std.specs.Prelude.{◌<◌};
 
+use std::alloc::{AllocError, Global};
+
 // The x of the four stops of document 01's example with the total 50.
 fn x_of(stop: u32) -> u32
     ensures { result < 31 }
@@ -12,11 +14,6 @@ fn x_of(stop: u32) -> u32
         2 => 10,
         _ => 20,
     }
-}
-
-// How far two numbers are apart.
-fn apart(a: u32, b: u32) -> u32 {
-    if a < b { b - a } else { a - b }
 }
 
 // `low` to a larger stop, and `high` to any other.
@@ -42,7 +39,7 @@ fn entry(rule: u32, a: u32, b: u32) -> u32 {
         3 => (2 * x + y / 3 + (5 * x + 3 * y) / 7) % 3,
         4 => by_side(x, y, 3, 7),
         5 => by_side(x, y, 7, 3),
-        7 => apart(x_of(x), x_of(y)),
+        7 => x_of(x).abs_diff(x_of(y)),
         9 => 0,
         10 => at(x, y, 0, 3),
         11 => at(x, y, 2, 0),
@@ -52,11 +49,7 @@ fn entry(rule: u32, a: u32, b: u32) -> u32 {
 
 // An entry with so much more, as far as 32 bits hold it.
 fn raised(entry: u32, more: u32) -> u32 {
-    if 4294967295 - more < entry {
-        entry
-    } else {
-        entry + more
-    }
+    entry.checked_add(more).unwrap_or(entry)
 }
 
 // An entry with 7 more off the diagonal, and 99 on it.
@@ -76,11 +69,13 @@ fn changed(rule: u32, a: u32, b: u32) -> u32 {
     }
 }
 
-// The table of n rows by a rule.
-pub fn fill(table: &mut [u32], n: usize, rule: u32)
+// The table of n rows by a rule, of this size.
+pub fn make(alloc: Global, n: usize, rule: u32, size: usize) -> Result<Vec<u32>, AllocError>
     requires { 0 < n }
 {
-    for i in 0..table.len() {
-        table[i] = changed(rule, (i / n % 1024) as u32, (i % n % 1024) as u32);
+    let mut table = vec![in alloc; 0u32; size]?;
+    for (i, time) in table.iter_mut().enumerate() {
+        *time = changed(rule, (i / n % 1024) as u32, (i % n % 1024) as u32);
     }
+    Ok(table)
 }

@@ -1,3 +1,2 @@
--- Laws of loops over a list, and of text.
-mod Loop
+-- Laws of text.
 mod Fields

@@ -1,122 +1,51 @@
-// First parts of buffers, and numbers put into one.
-ghost use Rattle.std.specs.Prelude.{◌≡◌, take, set};
-ghost use Rattle.std.proofs.lemmas.List.Edits.{sets};
+// First parts of buffers, and elements put into one.
+ghost use Rattle.std.specs.Prelude.{◌≡◌, ◌++◌, OnOk, drop, length, take, set};
+ghost use Rattle.std.specs.List.{flat_map};
+ghost use Rattle.test_support.specs.Bytes.{two_bytes};
 ghost use Rattle.test_support.specs.Change.{changed_once, changed};
 
-// The first `count` bytes, or all where there are fewer.
-pub fn bytes(all: &[u8], count: usize) -> &[u8]
+use std::alloc::AllocError;
+
+// The first `count` elements, or all where there are fewer.
+pub fn first<T>(all: &[T], count: usize) -> &[T]
     ensures { result.now ≡ take count all.now }
 {
-    if all.len() < count {
-        return all;
-    }
-    &all[..count]
+    &all[..count.min(all.len())]
 }
 
-// The same of bytes that may be written.
-pub fn bytes_mut(all: &mut [u8], count: usize) -> &mut [u8]
+// The same of elements that may be written.
+pub fn first_mut<T>(all: &mut [T], count: usize) -> &mut [T]
     ensures { result.now ≡ take count all.old }
 {
-    if all.len() < count {
-        return all;
-    }
+    let count = count.min(all.len());
     &mut all[..count]
 }
 
-// The first `count` numbers of 16 bits, or all where there are fewer.
-pub fn numbers(all: &[u16], count: usize) -> &[u16]
-    ensures { result.now ≡ take count all.now }
+// Puts an element where there is a place for it.
+pub fn put<T: Copy>(list: &mut [T], at: usize, value: T)
+    ensures { list.new ≡ set list.old at value }
 {
-    if all.len() < count {
-        return all;
-    }
-    &all[..count]
-}
-
-// The same of numbers that may be written.
-pub fn numbers_mut(all: &mut [u16], count: usize) -> &mut [u16]
-    ensures { result.now ≡ take count all.old }
-{
-    if all.len() < count {
-        return all;
-    }
-    &mut all[..count]
-}
-
-// The first `count` times, or all where there are fewer.
-pub fn times(all: &[u32], count: usize) -> &[u32]
-    ensures { result.now ≡ take count all.now }
-{
-    if all.len() < count {
-        return all;
-    }
-    &all[..count]
-}
-
-// The same of times that may be written.
-pub fn times_mut(all: &mut [u32], count: usize) -> &mut [u32]
-    ensures { result.now ≡ take count all.old }
-{
-    if all.len() < count {
-        return all;
-    }
-    &mut all[..count]
-}
-
-// The first `count` totals, or all where there are fewer.
-pub fn totals(all: &[u64], count: usize) -> &[u64]
-    ensures { result.now ≡ take count all.now }
-{
-    if all.len() < count {
-        return all;
-    }
-    &all[..count]
-}
-
-// The first `count` totals that may be written, or all where there are fewer.
-pub fn totals_mut(all: &mut [u64], count: usize) -> &mut [u64]
-    ensures { result.now ≡ take count all.old }
-{
-    if all.len() < count {
-        return all;
-    }
-    &mut all[..count]
-}
-
-// Puts a byte where there is a place for it.
-pub fn put(bytes: &mut [u8], at: usize, value: u8)
-    ensures { bytes.new ≡ set bytes.old at value }
-{
-    if at < bytes.len() {
-        bytes[at] = value;
+    if at < list.len() {
+        list[at] = value;
     }
 }
 
-// Puts a number of 16 bits where there is a place for it.
-pub fn put_number(numbers: &mut [u16], at: usize, value: u16)
-    ensures { numbers.new ≡ set numbers.old at value }
+// Puts the elements of `source` first, as many as there are places for.
+pub fn copy<T: Copy>(list: &mut [T], source: &[T])
+    ensures { list.new ≡ take (length list.old) source.now ++ drop (length source.now) list.old }
 {
-    if at < numbers.len() {
-        numbers[at] = value;
-    }
+    let count = source.len().min(list.len());
+    list[..count].copy_from_slice(&source[..count]);
 }
 
-// Puts a time where there is a place for it.
-pub fn put_time(times: &mut [u32], at: usize, value: u32)
-    ensures { times.new ≡ set times.old at value }
+// Adds numbers of 16 bits, the low byte of each first.
+pub fn push(bytes: &mut Vec<u8>, numbers: &[u16]) -> Result<(), AllocError>
+    ensures { OnOk result (bytes.new.items ≡ bytes.old.items ++ flat_map two_bytes numbers.now) }
 {
-    if at < times.len() {
-        times[at] = value;
+    for number in numbers {
+        bytes.extend_from_slice(&number.to_le_bytes())?;
     }
-}
-
-// Puts the bytes of `source` first, as many as there are places for.
-pub fn copy(bytes: &mut [u8], source: &[u8])
-    ensures { bytes.new ≡ sets bytes.old 0 source.now }
-{
-    for i in 0..source.len() {
-        put(bytes, i, source[i]);
-    }
+    Ok(())
 }
 
 // Makes one change: where it is not 0, puts its low byte in the place that its high byte names.

@@ -1,45 +1,66 @@
 // Of a list too long to be written whole: a sum in which each place counts.
-ghost use Rattle.std.specs.Prelude.{◌≡◌};
-ghost use Rattle.test_support.specs.Sum.{one_more, sum_of};
+ghost use Rattle.std.specs.Prelude.{◌≡◌, ℕ};
+ghost use Rattle.test_support.specs.Sum.{one_more, sum_of, folded};
 
-use crate::{wide, wide8, wide32};
+// A number of a list, and what it counts in the sum. One impl for each width, since a bound `Into<u64>` names no function that a clause could cite.
+pub trait Number: Copy {
+    ghost weight: { Self → ℕ };
+
+    fn weight(self) -> u64
+        ensures { result ≡ weight self };
+}
+
+impl Number for u8 {
+    ghost weight = { λ x. x };
+
+    fn weight(self) -> u64 {
+        u64::from(self)
+    }
+}
+
+impl Number for u16 {
+    ghost weight = { λ x. x };
+
+    fn weight(self) -> u64 {
+        u64::from(self)
+    }
+}
+
+impl Number for u32 {
+    ghost weight = { λ x. x };
+
+    fn weight(self) -> u64 {
+        u64::from(self)
+    }
+}
+
+impl Number for u64 {
+    ghost weight = { λ x. x };
+
+    fn weight(self) -> u64 {
+        self
+    }
+}
+
+impl Number for i32 {
+    ghost weight = { folded };
+
+    fn weight(self) -> u64 {
+        let size = u64::from(self.unsigned_abs()) * 2;
+        if self < 0 { size - 1 } else { size }
+    }
+}
 
 // The sum with one number more.
-pub fn more(sum: u64, number: u64) -> u64
+fn more(sum: u64, number: u64) -> u64
     ensures { result ≡ one_more sum number }
 {
     (sum % 4294967291 * 31 + number % 4294967291 + 1) % 4294967291
 }
 
-// The sum of a list of bytes.
-pub fn bytes(list: &[u8]) -> u64
-    ensures { result ≡ sum_of list.now }
+// The sum of a list.
+pub fn of<T: Number>(list: &[T]) -> u64
+    ensures { result ≡ sum_of T.weight list.now }
 {
-    let mut sum: u64 = 0;
-    for i in 0..list.len() {
-        sum = more(sum, wide8(list[i]));
-    }
-    sum
-}
-
-// The sum of a list of numbers of 16 bits.
-pub fn numbers(list: &[u16]) -> u64
-    ensures { result ≡ sum_of list.now }
-{
-    let mut sum: u64 = 0;
-    for i in 0..list.len() {
-        sum = more(sum, wide(list[i]));
-    }
-    sum
-}
-
-// The sum of a list of times.
-pub fn times(list: &[u32]) -> u64
-    ensures { result ≡ sum_of list.now }
-{
-    let mut sum: u64 = 0;
-    for i in 0..list.len() {
-        sum = more(sum, wide32(list[i]));
-    }
-    sum
+    list.iter().fold(0, |sum, x| more(sum, x.weight()))
 }

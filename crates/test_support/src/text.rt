@@ -1,47 +1,12 @@
 // Text: its fields between separators, and the words and numbers of a line 'name: word word 12 ..'.
-ghost use Rattle.std.specs.Prelude.{◌≡◌, ◌+◌, ◌%◌, ◌^◌, ◌≤◌, length, drop, get_or};
-ghost use Rattle.test_support.specs.Text.{up_to, past, field_of, word_of, digit_of, with_digit, number_of};
-
-// Where the first separator from `at` on stands, or the text's length.
-fn end_of(text: &[u8], separator: u8, at: usize) -> usize
-    requires { at ≤ length text.now }
-    ensures { (result ≡ at + length (up_to separator (drop at text.now))) × (result ≤ length text.now) }
-{
-    for i in at..text.len() {
-        if text[i] == separator {
-            return i;
-        }
-    }
-    text.len()
-}
-
-// Where the field after the one at `at` begins, or the text's length.
-fn next(text: &[u8], separator: u8, at: usize) -> usize
-    requires { at ≤ length text.now }
-    ensures { (drop result text.now ≡ past separator (drop at text.now)) × (result ≤ length text.now) }
-{
-    let end = end_of(text, separator, at);
-    if end < text.len() { end + 1 } else { end }
-}
-
-// Where field i begins, or the text's length.
-fn start_of(text: &[u8], separator: u8, i: usize) -> usize
-    ensures { (up_to separator (drop result text.now) ≡ field_of separator i text.now) × (result ≤ length text.now) }
-{
-    let mut at = 0;
-    for passed in 0..i {
-        at = next(text, separator, at);
-    }
-    at
-}
+ghost use Rattle.std.specs.Prelude.{◌≡◌, ◌%◌, ◌^◌, ◌≤◌, get_or};
+ghost use Rattle.test_support.specs.Text.{field_of, word_of, digit_of, with_digit, number_of};
 
 // Field i, counted from 0: empty past the last one.
 pub fn field(text: &[u8], separator: u8, i: usize) -> &[u8]
     ensures { result.now ≡ field_of separator i text.now }
 {
-    let at = start_of(text, separator, i);
-    let end = end_of(text, separator, at);
-    &text[at..end]
+    text.split(|byte| *byte == separator).nth(i).unwrap_or(&[])
 }
 
 // Word i, the first of which is word 1.
@@ -55,24 +20,18 @@ fn word(line: &[u8], i: usize) -> &[u8]
 pub fn letter(line: &[u8], i: usize) -> u8
     ensures { result ≡ get_or (word_of i line.now) 0 0 }
 {
-    let word = word(line, i);
-    if word.len() == 0 {
-        return 0;
-    }
-    word[0]
+    word(line, i).first().copied().unwrap_or(0)
 }
 
 // What a byte says as a digit.
-fn digit(byte: u8) -> u64
+fn digit(byte: u8) -> u8
     ensures { (result ≡ digit_of byte) × (result ≤ 15) }
 {
-    if byte < 48 {
-        return 0;
+    match byte {
+        b'0'..=b'9' => byte - b'0',
+        0..b'0' => 0,
+        _ => (byte % 16 + 9) % 16,
     }
-    if byte <= 57 {
-        return crate::wide8(byte - 48);
-    }
-    (crate::wide8(byte) % 16 + 9) % 16
 }
 
 // A number with one digit more, or as it is after a low line.
@@ -83,7 +42,7 @@ fn with_digit(base: u64, number: u64, byte: u8) -> u64
     if byte == b'_' {
         return number;
     }
-    number % 1152921504606846976 * base + digit(byte)
+    number % 1152921504606846976 * base + u64::from(digit(byte))
 }
 
 // The number that digits say.
@@ -91,11 +50,9 @@ fn read(digits: &[u8], base: u64) -> u64
     requires { base ≤ 16 }
     ensures { result ≡ number_of base digits.now }
 {
-    let mut number: u64 = 0;
-    for i in 0..digits.len() {
-        number = with_digit(base, number, digits[i]);
-    }
-    number
+    digits
+        .iter()
+        .fold(0, |number, byte| with_digit(base, number, *byte))
 }
 
 // The number in word i, in decimal.
@@ -110,6 +67,13 @@ pub fn hex(line: &[u8], i: usize) -> u64
     ensures { result ≡ number_of 16 (word_of i line.now) }
 {
     read(word(line, i), 16)
+}
+
+// The decimal number in word i as a byte.
+pub fn byte(line: &[u8], i: usize) -> u8
+    ensures { result ≡ number_of 10 (word_of i line.now) % 2 ^ 8 }
+{
+    (number(line, i) % 256) as u8
 }
 
 // The decimal number in word i as one of 16 bits.

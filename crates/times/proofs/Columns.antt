@@ -1,16 +1,17 @@
 -- Laws of rows that are written together, column after column. A column lies in rows that do not meet, so that what is set in one row leaves the
 -- others as they are.
 use mathlib.Core.Path.{◌≡◌, refl, sym, ap, ◌∙◌}
-use mathlib.Core.List.{List, [], ◌∷◌, ◌++◌}
+use mathlib.Core.List.{List, [], ◌∷◌, ◌++◌, append-nil}
 use Prim.Native.Nat.{ℕ, zero, suc, ◌+◌, ◌*◌, ◌≤◌, ◌<◌}
 use native.Mathlib.Decide.{ℕ_discrete}
-use native.Mathlib.Nat.{zero-add, add-zero, suc-add, suc-mul, add-mul, mul-le-mul_right}
+use native.Mathlib.Nat.{zero-add, zero-mul, add-zero, suc-add, suc-mul, add-mul, mul-le-mul_right}
+use native.Mathlib.Numerals.{add-one}
 use native.Mathlib.Omega.{arith}
-use lib.ListN.{length, get_or, take, drop, set, length-append, length-drop, length-set}
+use lib.ListN.{length, get_or, take, drop, set, length-append, length-drop, length-set, drop_of_length-le}
 use lib.Seq.{length-take-le, set-append_left, take-set-lt, drop-set-lt, get_or-set_same, get_or-set_other, ext_get_or}
 use Rattle.base.specs.Lists.{tabulate}
 use Rattle.base.proofs.Lists.{length-tabulate, get_or-tabulate}
-use Rattle.times.specs.Rows.{written, filled}
+use Rattle.times.specs.Rows.{rows, written, filled}
 use Rattle.times.specs.Columns.{set_each, in_column, on_diagonal, written_rows}
 use Rattle.times.proofs.Written.{written_none, written_next, filled_next}
 
@@ -63,6 +64,14 @@ written-set t s g g' m j v l h e d =
 -- row r begins where the rows before it end
 row-place : (start n r : ℕ) → start + suc r * n ≡ start + r * n + n
 row-place start n r = omega (arith, suc-mul r n)
+
+pub each_none : (t : List ℕ) (p v : ℕ → ℕ) → t ≡ set_each t p v 0
+unfolding set_each
+each_none t p v = refl
+
+pub each_more : (t : List ℕ) (p v : ℕ → ℕ) (r : ℕ) (t' : List ℕ) (x : ℕ) → t' ≡ set_each t p v r → x ≡ v r → set t' (p r) x ≡ set_each t p v (r + 1)
+unfolding set_each
+each_more t p v r t' x e f = rw (e, f, add-one r)
 
 length-each : (t : List ℕ) (p v : ℕ → ℕ) (r : ℕ) → length (set_each t p v r) ≡ length t
 unfolding set_each
@@ -145,6 +154,18 @@ rows-filled t₀ n f i t (suc r) e =
     filled_next t₀ n f (i + r) _ _ (rows-filled t₀ n f i t r e) refl in
     rw place (rw count at next)
 
--- four rows after the first i end within n rows
-pub four-fit : (i n : ℕ) → i + 4 ≤ n → i * n + 4 * n ≤ n * n
-four-fit i n h = let all : (i + 4) * n ≤ n * n = mul-le-mul_right n h in omega (arith, add-mul i 4 n)
+-- rows from the list's first place on are written over its front
+rows-front : (t : List ℕ) (n : ℕ) (f : ℕ → ℕ → ℕ) (r : ℕ) → written_rows t 0 n f n r ≡ filled t n f r
+unfolding written_rows
+rows-front t n f zero = rw zero-mul
+rows-front t n f (suc r) =
+    let next : written (written_rows t 0 n f n r) (r * n) (f r) n ≡ filled t n f (r + 1) = filled_next t n f r _ _ (rows-front t n f r) refl in
+    rw (zero-add (r * n)) (rw (add-one r) at next)
+
+-- and are all that it is where there are no more places
+pub rows-whole : (t : List ℕ) (n : ℕ) (f : ℕ → ℕ → ℕ) (r : ℕ) → length t ≡ r * n → written_rows t 0 n f n r ≡ rows r (λ j. tabulate n (f j))
+rows-whole t n f r l =
+    let end : length t ≤ r * n = omega arith in
+    rows-front t n f r
+    ∙ ap (λ (x : List ℕ). rows r (λ j. tabulate n (f j)) ++ x) (drop_of_length-le t end)
+    ∙ append-nil (rows r (λ j. tabulate n (f j)))

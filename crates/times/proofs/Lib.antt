@@ -8,4 +8,4 @@ pub mod Size
 pub mod InPath
 pub mod Summing
 pub mod Table
-pub mod Source
+pub mod Entries

@@ -1,25 +1,26 @@
 -- Laws of an order's moves by the stops of path bytes: the stops of judged bytes, and the sum place by place.
 use mathlib.Core.Path.{◌≡◌, refl, sym, ap, ap₂, ◌∙◌}
-use mathlib.Core.Bool.{Bool, true, false, cond}
+use mathlib.Core.Bool.{Bool, true, false, cond, ◌&&◌}
 use mathlib.Core.List.{List}
-use Prim.Native.Nat.{ℕ, suc, pred, ◌+◌, ◌-◌, ◌^◌, ◌≤◌, ◌<◌}
+use mathlib.Core.Logic.{◌⊎◌, inl, inr}
+use native.Mathlib.Numerals.{add-one}
+use Prim.Native.Nat.{ℕ, suc, pred, ◌+◌, ◌^◌, ◌≤◌, ◌<◌}
 use native.Mathlib.Nat.{mul-le-mul_right}
 use native.Mathlib.Omega.{arith}
 use lib.Dec.{eqb}
-use lib.ListN.{length, get_or, take}
-use lib.Seq.{get_or-take, length-take-le}
-use borrow.Author.Tests.{lt-leb}
+use lib.ListN.{length, get_or}
+use borrow.Author.Tests.{lt-leb, eq-eqb}
+use Rattle.base.specs.Refusal.{out_of_range}
+use Rattle.base.specs.Outcome.{gives, need, value}
 use Rattle.stop.specs.declared.Stop.{Stop}
 use Rattle.stop.specs.Stop.{in_range, good_point, good_coordinate, zero_stop}
 use Rattle.path.specs.Path.{stop_in, stop_place, stop_size}
 use Rattle.path.proofs.PlaceLaws.{size-range}
 use Rattle.path.proofs.JudgeLaws.{JudgedBody}
-use Rattle.tree.specs.Neighbour.{in_place}
 use Rattle.tree.specs.Total.{moves, total}
-use Rattle.times.specs.declared.moves.Passed.{Passed}
-use Rattle.times.specs.Time.{move_time}
+use Rattle.times.specs.Time.{time, move_time}
 use Rattle.times.specs.InPath.{time_of, time_in}
-use Rattle.times.specs.Summing.{StopOf, moved_on, Summed}
+use Rattle.times.specs.Summing.{StopOf, Summed}
 use Rattle.times.proofs.InPath.{time-small}
 use Rattle.times.proofs.Table.{source-good}
 
@@ -47,47 +48,40 @@ nothing : (b : Bool) → ◌≡◌ {A = ℕ} (cond b 0 0) 0
 nothing true = refl
 nothing false = refl
 
--- to and from a number that is no stop's no time is taken
-pub from-none : (n i j : ℕ) (a b : Stop) → StopOf n i a → n ≤ i → 0 ≡ time_of i a j b
+-- from a stop to itself, and from and to a number that is no stop's, no time is taken
+pub no-time : (n i j : ℕ) (a b : Stop) → StopOf n i a → StopOf n j b → (i ≡ j) ⊎ (((i ≡ j → ⊥) × (n ≤ i)) ⊎ ((i ≡ j → ⊥) × (i < n) × (n ≤ j))) → 0 ≡ time_of i a j b
 unfolding time_of move_time
-from-none n i j a b s h = rw (s.none h) (sym (nothing (eqb i j)))
-
-pub to_none : (n i j : ℕ) (a b : Stop) → StopOf n i a → i < n → StopOf n j b → n ≤ j → 0 ≡ time_of i a j b
-unfolding time_of move_time
-to_none n i j a b s l t h = rw (s.good l, t.none h) (sym (nothing (eqb i j)))
+no-time n i j a b s t (inl e) = rw (eq-eqb i j e)
+no-time n i j a b s t (inr (inl h)) = rw (s.none h.1) (sym (nothing (eqb i j)))
+no-time n i j a b s t (inr (inr h)) = rw (t.none h.2) (sym (by (in_range a)))
+  where
+    by : (good : Bool) → cond (eqb i j) 0 (value 0 (need (good && false) out_of_range (gives (time a b)))) ≡ 0
+    by true = nothing (eqb i j)
+    by false = nothing (eqb i j)
 
 -- ---- place by place
 
-module _ (version : ℕ) (bytes : List ℕ) (n : ℕ) (order : List ℕ) where
+module _ (version : ℕ) (bytes : List ℕ) (order : List ℕ) where
   -- none
-  pub summed-none : (first : ℕ) (stop : Stop) → 1 ≤ n → first ≡ get_or order 0 0 → stop ≡ stop_in version first bytes
-      → Summed version bytes n order 1 (record { sum = 0; number = first; stop = stop })
-  summed-none first stop h f s = record { begun = omega arith; within = h; small = omega arith; sum = refl; number = f; stop = s }
+  pub summed-none : (first : ℕ) (stop : Stop) → first ≡ get_or order 0 0 → stop ≡ stop_in version first bytes → Summed version bytes order 0 0 first stop
+  summed-none first stop f s = record { small = omega arith; sum = refl; number = f; stop = s }
 
   -- one more
-  pub summed-more : (p to : ℕ) (passed passed' : Passed) → Summed version bytes n order p passed → p < n → to ≡ get_or order p 0 → passed' ≡ moved_on version bytes passed to
-      → Summed version bytes n order (p + 1) passed'
-  summed-more p to passed passed' s h t e =
-      let i : p + 1 - 1 ≡ suc (p - 1) = omega (arith, s.begun) in
-      let j : suc (p - 1) ≡ p = omega (arith, s.begun) in
-      let here : in_place (take n order) (p - 1) ≡ passed.number = get_or-take n order (p - 1) 0 (omega arith) ∙ sym s.number in
-      let next : in_place (take n order) (suc (p - 1)) ≡ to = ap (λ (x : ℕ). in_place (take n order) x) j ∙ get_or-take n order p 0 h ∙ sym t in
-      let time = time_of passed.number passed.stop to (stop_in version to bytes) in
-      let bound = time-small passed.number passed.stop to (stop_in version to bytes) in
-      let from : time_in version bytes passed.number to ≡ time = ap (λ (a : Stop). time_of passed.number a to (stop_in version to bytes)) (sym s.stop) in
-      rw e
-      (record {
-        begun = omega arith;
-        within = omega arith;
-        small = omega (arith, s.small, bound);
-        sum = rw (i, s.sum) (sym (ap₂ (λ (x y : ℕ). moves (time_in version bytes) (take n order) (p - 1) + time_in version bytes x y) here next ∙ ap (λ (x : ℕ). moves (time_in version bytes) (take n order) (p - 1) + x) from));
-        number = t ∙ ap (λ (x : ℕ). get_or order x 0) (sym j ∙ sym i);
-        stop = refl;
-      })
+  pub summed-more : (p sum sum' here next : ℕ) (from to : Stop) → Summed version bytes order p sum here from → next ≡ get_or order (p + 1) 0 → to ≡ stop_in version next bytes → sum' ≡ sum + time_of here from next to
+      → Summed version bytes order (p + 1) sum' next to
+  summed-more p sum sum' here next from to s t f e =
+      let bound = time-small here from next to in
+      let last : next ≡ get_or order (suc p) 0 = rw (add-one p) at t in
+      let same : time_of here from next to ≡ time_in version bytes (get_or order p 0) (get_or order (suc p) 0) = rw (← s.number, ← last, ← f, ← s.stop) in
+      record {
+        small = omega (arith, s.small, bound, e);
+        sum = rw (add-one p) (e ∙ ap₂ (λ (x y : ℕ). x + y) s.sum same);
+        number = t;
+        stop = f;
+      }
 
   -- all
-  pub summed-all : (p : ℕ) (passed : Passed) → n ≤ length order → Summed version bytes n order p passed → n ≤ p → passed.sum ≡ total (time_in version bytes) (take n order)
-  summed-all p passed long s h =
-      let whole : length (take n order) ≡ n = length-take-le n order long in
-      let last : p - 1 ≡ pred (length (take n order)) = omega (arith, s.within, s.begun) in
-      s.sum ∙ ap (moves (time_in version bytes) (take n order)) last
+  pub summed-all : (p sum here : ℕ) (from : Stop) → Summed version bytes order p sum here from → p + 1 ≡ length order → sum ≡ total (time_in version bytes) order
+  summed-all p sum here from s e =
+      let last : p ≡ pred (length order) = omega arith in
+      s.sum ∙ ap (moves (time_in version bytes) order) last

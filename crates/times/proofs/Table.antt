@@ -9,22 +9,23 @@ use native.Mathlib.Omega.{arith}
 use lib.Dec.{leb, eqb}
 use lib.ListN.{length, get_or, get_or-eq_default}
 use borrow.Author.Tests.{eqb-true, leb-true, eq-eqb, le-leb}
-use Rattle.base.specs.Refusal.{wrong_k, wrong_size}
-use Rattle.base.specs.Outcome.{Outcome, gives, giving, done, number}
-use Rattle.base.specs.Size.{max_k}
+use Rattle.std.specs.Prelude.{Result, Ok, Err}
+use Rattle.base.specs.declared.Refusal.{Refusal}
+use Rattle.base.specs.Refusal.{wrong_k, wrong_size, refusal_number}
+use Rattle.base.specs.Outcome.{Outcome, gives, refuses, giving, done, said, number}
+use Rattle.base.specs.Size.{max_k, stop_count}
+use Rattle.base.proofs.Size.{stop_count-pow}
 use Rattle.base.specs.Lists.{tabulate}
-use Rattle.base.proofs.Outcome.{passed, refused, number-giving, number-first, over-whole}
+use Rattle.base.proofs.Outcome.{passed, number-giving, number-first, done-good, gives-not-refuses, over-whole}
 use Rattle.base.proofs.Lists.{length-tabulate, get_or-tabulate}
 use Rattle.stop.specs.declared.Stop.{Stop}
 use Rattle.stop.specs.Stop.{in_range, zero_stop}
-use Rattle.stop.specs.Lent.{LentStops, first_stops, all_in_range, judge_lent, Judged}
+use Rattle.stop.specs.Lent.{LentStops, first_stops, all_in_range, stops_fit, judge_all, judge_lent, Judged}
 use Rattle.stop.proofs.Lent.{each-good, judged-lent, judged-gives}
 use Rattle.path.specs.Path.{body_after_head, stops_in}
 use Rattle.path.proofs.JudgeLaws.{JudgedBody, body-good}
-use Rattle.times.specs.declared.TableMade.{TableMade}
-use Rattle.times.specs.declared.TableMade.TheVariants.{Made, Refused}
 use Rattle.times.specs.Time.{time_between, longest_time}
-use Rattle.times.specs.Table.{entry_of, table_of, table_room, make_table, table_from, said, TableIsMade}
+use Rattle.times.specs.Table.{entry_of, table_of, table_room, make_table, table_from, TableIsMade}
 use Rattle.times.proofs.Time.{time_between-bound}
 use Rattle.times.proofs.Rows.{length-rows, get_or-rows}
 
@@ -89,6 +90,13 @@ room k size e =
     let square = passed (eqb size (2 ^ k * 2 ^ k)) wrong_size (gives tt) (omega arith) small.goes_on in
     record { small = leb-true _ _ small.holds; square = eqb-true _ _ square.holds; passes = small.same ∙ square.same }
 
+-- so it is where nothing is refused, and there are 2^k stops
+pub roomy : (k size : ℕ) → gives tt ≡ table_room k size → Room k size
+roomy k size e = room k size (sym (ap number e))
+
+pub roomy-count : (k size n : ℕ) → gives tt ≡ table_room k size → n ≡ stop_count k → n ≡ 2 ^ k
+roomy-count k size n e c = c ∙ stop_count-pow k (roomy k size e).small
+
 -- a k up to 10 and n² places pass
 pub room-passes : (k size : ℕ) → k ≤ max_k → size ≡ 2 ^ k * 2 ^ k → table_room k size ≡ gives tt
 unfolding table_room
@@ -135,44 +143,53 @@ accepted-path bytes version k size e =
 pub square-table : (k size : ℕ) (f : ℕ → Stop) → size ≡ 2 ^ k * 2 ^ k → length (table_of (tabulate (2 ^ k) f)) ≡ size
 square-table k size f e = length-table (tabulate (2 ^ k) f) ∙ rw (length-tabulate (2 ^ k) f) (sym e)
 
--- the number of the table is that of its room where that is not 0, and otherwise that of the stops
-pub make-room : (k : ℕ) (lent : LentStops) (size r : ℕ) → r ≡ number (table_room k size) → (r ≡ 0 → ⊥) → r ≡ number (make_table k lent size)
-unfolding make_table
-make-room k lent size r e f = rw (refused (table_room k size) r e f)
-
-pub make-stops : (k : ℕ) (lent : LentStops) (size n r : ℕ) → Room k size → n ≡ 2 ^ k → r ≡ number (judge_lent n lent) → r ≡ number (make_table k lent size)
-unfolding make_table
-make-stops k lent size n r fits count e = rw fits.passes (rw count at e ∙ sym (number-giving table_of (judge_lent (2 ^ k) lent)))
-
-pub path_room : (bytes : List ℕ) (version k size r : ℕ) → r ≡ number (table_room k size) → (r ≡ 0 → ⊥) → r ≡ number (table_from bytes version k size)
-unfolding table_from
-path_room bytes version k size r e f = rw (refused (table_room k size) r e f)
-
-pub path-stops : (bytes : List ℕ) (version k size r : ℕ) → Room k size → r ≡ number (body_after_head bytes version k) → r ≡ number (table_from bytes version k size)
-unfolding table_from
-path-stops bytes version k size r fits e = rw fits.passes (e ∙ sym (number-giving table_of (body_after_head bytes version k)))
-
 -- ---- the promise
 
--- after a refusal, and after success
-pub table-refused : (o : Outcome (List ℕ)) (before : List ℕ) (r : ℕ) → r ≡ number o → (r ≡ 0 → ⊥) → TableIsMade o before before (Refused r)
-unfolding said
-table-refused o before r e f = let n = refused o r e f in record { said = rw n; left = rw n }
+-- after a refusal: of its room, or of what comes after it
+pub table-refused : (o : Outcome (List ℕ)) (before : List ℕ) (r : Result Unit Refusal) (n : ℕ) → said r ≡ refuses n → o ≡ refuses n → TableIsMade o before before r
+table-refused o before r n e f = record { said = rw (e, f); left = rw f }
 
-pub table-made : (o : Outcome (List ℕ)) (table before afterwards : List ℕ) → o ≡ gives table → length table ≡ length before → afterwards ≡ table → TableIsMade o before afterwards Made
-unfolding said
+pub make-unroomed : (k : ℕ) (lent : LentStops) (size n : ℕ) → table_room k size ≡ refuses n → make_table k lent size ≡ refuses n
+unfolding make_table
+make-unroomed k lent size n e = rw e
+
+pub make-unjudged : (k : ℕ) (lent : LentStops) (size n : ℕ) → table_room k size ≡ gives tt → judge_lent (2 ^ k) lent ≡ refuses n → make_table k lent size ≡ refuses n
+unfolding make_table
+make-unjudged k lent size n e f = rw (e, f)
+
+pub path-unroomed : (bytes : List ℕ) (version k size n : ℕ) → table_room k size ≡ refuses n → table_from bytes version k size ≡ refuses n
+unfolding table_from
+path-unroomed bytes version k size n e = rw e
+
+pub path-unjudged : (bytes : List ℕ) (version k size n : ℕ) → table_room k size ≡ gives tt → body_after_head bytes version k ≡ refuses n → table_from bytes version k size ≡ refuses n
+unfolding table_from
+path-unjudged bytes version k size n e f = rw (e, f)
+
+-- lent stops that were judged are there
+pub lent-there : (n : ℕ) (lent : LentStops) → number (judge_lent n lent) ≡ 0 → stops_fit n lent ≡ true
+unfolding judge_lent
+lent-there n lent e = (passed (stops_fit n lent) wrong_size (judge_all (first_stops n lent)) (omega arith) e).holds
+
+-- after success
+pub make-accepted : (k : ℕ) (lent : LentStops) (size : ℕ) → table_room k size ≡ gives tt → number (judge_lent (2 ^ k) lent) ≡ 0 → make_table k lent size ≡ gives (table_of (first_stops (2 ^ k) lent))
+unfolding make_table
+make-accepted k lent size e f = rw (e, judged-gives (2 ^ k) lent f)
+
+pub path-accepted : (bytes : List ℕ) (version k size : ℕ) → table_room k size ≡ gives tt → JudgedBody bytes version k → table_from bytes version k size ≡ gives (table_of (stops_in version (2 ^ k) bytes))
+unfolding table_from
+path-accepted bytes version k size e b = rw (e, b.stops)
+
+pub table-made : (o : Outcome (List ℕ)) (table before afterwards : List ℕ) → o ≡ gives table → length table ≡ length before → afterwards ≡ table → TableIsMade o before afterwards (Ok tt)
 table-made o table before afterwards e l w = record { said = rw e; left = rw e (w ∙ sym (over-whole table before l)) }
 
--- an answer `Made` tells that nothing was refused
-pub when-made : (o : Outcome (List ℕ)) (before afterwards : List ℕ) → TableIsMade o before afterwards Made → number o ≡ 0
-unfolding said
-when-made o before afterwards p = sym (number-giving (λ a. tt) o) ∙ sym (ap number p.said)
+-- an answer `Ok` tells that nothing was refused
+pub when-made : (o : Outcome (List ℕ)) (before afterwards : List ℕ) → TableIsMade o before afterwards (Ok tt) → number o ≡ 0
+when-made o before afterwards p = done-good o p.said
 
--- an outcome that is a table is answered by `Made`, and leaves it
-pub made-when : (o : Outcome (List ℕ)) (table before afterwards : List ℕ) (r : TableMade) → o ≡ gives table → length table ≡ length before → TableIsMade o before afterwards r → (r ≡ Made) × (afterwards ≡ table)
-unfolding said
+-- an outcome that is a table is answered by `Ok`, and leaves it
+pub made-when : (o : Outcome (List ℕ)) (table before afterwards : List ℕ) (r : Result Unit Refusal) → o ≡ gives table → length table ≡ length before → TableIsMade o before afterwards r → (r ≡ Ok tt) × (afterwards ≡ table)
 made-when o table before afterwards r e l p = (only-made r (p.said ∙ ap done e), p.left ∙ rw e (over-whole table before l))
   where
-    only-made : (r : TableMade) → said r ≡ gives tt → r ≡ Made
-    only-made Made e = refl
-    only-made (Refused n) e = let z : ◌≡◌ {A = ℕ} 0 1 = cc in absurd (omega arith)
+    only-made : (r : Result Unit Refusal) → said r ≡ gives tt → r ≡ Ok tt
+    only-made (Ok u) e = refl
+    only-made (Err r) e = absurd (gives-not-refuses tt (refusal_number r) (sym e))

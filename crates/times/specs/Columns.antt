@@ -1,28 +1,22 @@
--- Neighbouring rows of the table that are written together: their columns, and their places on the diagonal.
-use Rattle.std.specs.Prelude.{◌≡◌, true, List, ℕ, zero, suc, ◌+◌, ◌*◌, set}
+-- Four neighbouring rows of the table that are written together: their columns, and their places on the diagonal.
+use Rattle.std.specs.Prelude.{◌≡◌, true, List, ℕ, zero, suc, ◌+◌, ◌*◌, ◌<◌, length, get_or, set}
 use Rattle.stop.specs.declared.Stop.{Stop}
-use Rattle.stop.specs.Stop.{in_range}
-use Rattle.times.specs.declared.column.FourStops.{FourStops}
+use Rattle.stop.specs.Stop.{in_range, zero_stop}
 use Rattle.times.specs.Time.{time}
 use Rattle.times.specs.Rows.{written}
 
--- four stops are in range
-pub record FourInRange (four : FourStops) : Type 0 where
-  pub a : in_range four.a ≡ true
-  pub b : in_range four.b ≡ true
-  pub c : in_range four.c ≡ true
-  pub d : in_range four.d ≡ true
+-- stop r of neighbouring ones
+abbrev pub stop_of : List Stop → ℕ → Stop
+stop_of stops r = get_or stops r zero_stop
 
--- stop number r of four; only 0 to 3 are asked for
-unfoldable pub of_four : FourStops → ℕ → Stop
-of_four four zero = four.a
-of_four four (suc zero) = four.b
-of_four four (suc (suc zero)) = four.c
-of_four four (suc (suc (suc r))) = four.d
+-- four stops are in range
+pub record FourInRange (four : List Stop) : Type 0 where
+  pub count : length four ≡ 4
+  pub good : (r : ℕ) → r < 4 → in_range (stop_of four r) ≡ true
 
 -- the times of the moves from four stops to another
-abbrev pub times_from : FourStops → Stop → ℕ → ℕ
-times_from four stop r = time (of_four four r) stop
+abbrev pub times_from : List Stop → Stop → ℕ → ℕ
+times_from four stop r = time (stop_of four r) stop
 
 -- the list t with the values v 0 to v (r − 1) at the places p 0 to p (r − 1)
 unfoldable pub set_each : List ℕ → (p v : ℕ → ℕ) → ℕ → List ℕ

@@ -2,7 +2,6 @@
 pub mod Time
 pub mod Rows
 pub mod Columns
-pub mod Source
 pub mod Table
 pub mod InPath
 pub mod Summing

@@ -1,84 +1,73 @@
-// The moves of an order by the stops of judged path bytes, summed place by place: each stop is read once, and none is judged again.
+// The moves of an order by the stops of path bytes: the path is judged first, and then each stop is read once, and none is judged again.
 
-ghost use Rattle.std.specs.Prelude.{◌≡◌, true, ℕ, ◌≤◌, ◌^◌, min, length, take};
+ghost use Rattle.std.specs.Prelude.{◌≡◌, ℕ, ◌≤◌, length};
+ghost use Rattle.base.specs.Outcome.{said};
 ghost use Rattle.path.specs.Path.{stop_in};
 ghost use Rattle.tree.specs.Total.{total};
 ghost use Rattle.times.specs.InPath.{time_of, time_in};
-ghost use Rattle.times.specs.Summing.{StopOf, moved_on};
+ghost use Rattle.times.specs.Summing.{sum_in, StopOf};
 
 use crate::travel;
-use path::stop_from;
+use base::Refusal;
+use path::PathBytes;
 use stop::Stop;
 
-// The moves that were summed: their sum, and the stop that the last of them led to, with its number.
+// The sum of the moves between the first n numbers of an order, or all where there are fewer, by the stops of path bytes. The stops and the end are
+// judged first. A number that is no stop's takes no time.
+pub fn sum_in(path: PathBytes, order: &[u16]) -> Result<u64, Refusal>
+    ensures { said result ≡ sum_in path.entry.bytes.now path.entry.version path.entry.k order.now }
+{
+    path.judge()?;
+    let n = base::stop_count(path.k);
+    Ok(sum_moves(path, n, &order[..n.min(order.len())]))
+}
+
+// A stop of a path, with the number by which an order names it.
 #[derive(Clone, Copy)]
-struct Passed {
-    sum: u64,
-    number: u16,
+struct Place {
+    number: usize,
     stop: Stop,
 }
 
-// The time from stop number i, `from`, to stop number j, `to`, of n judged stops.
-fn time_judged(n: usize, i: usize, from: Stop, j: usize, to: Stop) -> u32
-    requires { StopOf n i from × StopOf n j to }
-    ensures { result ≡ time_of i from j to }
-{
-    if i == j {
-        return 0;
-    }
-    if n <= i {
-        return 0;
-    }
-    if n <= j {
-        return 0;
-    }
-    travel::time(from, to)
-}
-
-// The moves so far, and one more.
-fn move_on(bytes: &[u8], version: u16, n: usize, passed: Passed, to: u16) -> Passed
-    requires { ((i : ℕ) → StopOf n i (stop_in version i bytes.now)) × StopOf n passed.number passed.stop × (passed.sum ≤ 2 ^ 63) }
-    ensures { result ≡ moved_on version bytes.now passed to }
-{
-    let from = passed.stop;
-    let stop = stop_from(bytes, version, to as usize);
-    let time = time_judged(n, passed.number as usize, from, to as usize, stop);
-    Passed {
-        sum: passed.sum + (time as u64),
-        number: to,
-        stop,
+impl Place {
+    // The stop of this number.
+    fn of(path: PathBytes, number: u16) -> Place
+        ensures { (result.number ≡ number) × (result.stop ≡ stop_in path.entry.version result.number path.entry.bytes.now) }
+    {
+        let number = usize::from(number);
+        Place {
+            number,
+            stop: path.stop(number),
+        }
     }
 }
 
-// The sum of the moves between the first `count` numbers of an order, at least one.
-fn sum_first(bytes: &[u8], version: u16, n: usize, count: usize, order: &[u16]) -> u64
-    requires { ((i : ℕ) → StopOf n i (stop_in version i bytes.now)) × (1 ≤ count) × (count ≤ length order.now) × (count ≤ 1024) }
-    ensures { result ≡ total (time_in version bytes.now) (take count order.now) }
+// The time from one stop of n judged ones to another.
+fn time_judged(n: usize, from: Place, to: Place) -> u32
+    requires { StopOf n from.number from.stop × StopOf n to.number to.stop }
+    ensures { result ≡ time_of from.number from.stop to.number to.stop }
 {
-    let first = order[0];
-    let mut passed = Passed {
-        sum: 0,
-        number: first,
-        stop: stop_from(bytes, version, first as usize),
+    if from.number == to.number || n <= from.number || n <= to.number {
+        0
+    } else {
+        travel::time(from.stop, to.stop)
+    }
+}
+
+// The sum of the moves between the numbers of an order, by the stops of a path of n judged ones.
+fn sum_moves(path: PathBytes, n: usize, order: &[u16]) -> u64
+    requires { ((i : ℕ) → StopOf n i (stop_in path.version i path.bytes.now)) × (length order.now ≤ 1024) }
+    ensures { result ≡ total (time_in path.entry.version path.entry.bytes.now) order.now }
+{
+    let Some((&first, rest)) = order.split_first() else {
+        return 0;
     };
-    let mut p = 1;
-    while p < count {
-        passed = move_on(bytes, version, n, passed, order[p]);
-        p += 1;
+    let mut from = Place::of(path, first);
+    let mut sum = 0;
+    for &number in rest {
+        let to = Place::of(path, number);
+        sum += u64::from(time_judged(n, from, to));
+        from = to;
     }
-    passed.sum
-}
-
-// The sum of the moves between the first n numbers of an order, or all where there are fewer.
-pub fn sum_moves(bytes: &[u8], version: u16, n: usize, order: &[u16]) -> u64
-    requires { ((i : ℕ) → StopOf n i (stop_in version i bytes.now)) × (1 ≤ n) × (n ≤ 1024) }
-    ensures { result ≡ total (time_in version bytes.now) (take n order.now) }
-{
-    if order.len() == 0 {
-        return 0;
-    }
-    if n <= order.len() {
-        return sum_first(bytes, version, n, n, order);
-    }
-    sum_first(bytes, version, n, order.len(), order)
+    sum
 }

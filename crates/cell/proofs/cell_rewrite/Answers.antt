@@ -1,13 +1,8 @@
 -- `cell::cell_rewrite` meets its contract: the job's answer as a signed number.
 use mathlib.Core.Path.{◌∙◌}
 use Rattle.signed.proofs.Result.{handed-on}
-use Rattle.cell.proofs.Results.{rewrite-wrote, rewrite-refused}
+use Rattle.cell.proofs.Results.{rewrite-answered}
 use Rattle.cell.proofs.cell_rewrite.Goals as goal
 
-pub returns-in-Wrote : goal.returns-in-Wrote
-returns-in-Wrote c =
-    rewrite-wrote _ _ _ _ _ _ _ c.rewrite_file-answer.ensures _ c.in-Wrote.is (handed-on _ c.value.type_inv ∙ c.value.ensures)
-
-pub returns-in-Refused : goal.returns-in-Refused
-returns-in-Refused c =
-    rewrite-refused _ _ _ _ _ _ _ c.rewrite_file-answer.ensures _ c.in-Refused.is (handed-on _ c.refusal.type_inv ∙ c.refusal.ensures)
+pub returns : goal.returns
+returns c = rewrite-answered _ _ _ _ _ _ _ c.rewrite_file.ensures (handed-on _ c.answer.type_inv ∙ c.answer.ensures)

@@ -1,14 +1,16 @@
--- `exports::ffi_draw` meets its contract: the refusal, or the verdict.
-use mathlib.Core.Path.{◌∙◌}
-use native.Mathlib.Omega.{arith}
-use mir.Syntax.{w64}
-use mir.ValLaws.{to_z_pos}
-use Rattle.exports.proofs.Exports.{handed, drawn-refused, drawn-else}
+-- `exports::ffi_draw` meets its contract: a draw's verdict is what it answers.
+use mathlib.Core.Path.{ap, ◌∙◌}
+use borrow.Author.Rules.{rules}
+use Rattle.path.specs.Draw.{Draw}
+use Rattle.signed.specs.Result.{itself, signed}
+use Rattle.signed.proofs.Result.{handed-on}
+use Rattle.exports.specs.Values.{verdict, drawn_verdict}
+use Rattle.exports.proofs.Exports.{drawn-verdict}
 use Rattle.exports.proofs.ffi_draw.Goals as goal
 
-pub returns-then-drawn-eq-A_REFUSAL : goal.returns-then-drawn-eq-A_REFUSAL
-returns-then-drawn-eq-A_REFUSAL c =
-    handed _ _ c.refusal.type_inv (c.refusal.ensures ∙ drawn-refused _ _ c.draw_number-drawn.ensures c.if-drawn-eq-A_REFUSAL.true)
-
 pub returns : goal.returns
-returns c = to_z_pos w64 _ (omega arith) ∙ drawn-else _ _ c.draw_number-drawn.ensures c.if-drawn-eq-A_REFUSAL.false
+returns c =
+    handed-on _ c.answer_by.type_inv
+    ∙ c.answer_by.ensures drawn_verdict (λ x n p. search rules)
+    ∙ drawn-verdict c.draw_number.result
+    ∙ ap (λ (d : Draw). signed itself (verdict d)) c.draw_number.ensures

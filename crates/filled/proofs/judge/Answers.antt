@@ -1,36 +1,22 @@
 -- `filled::judge` meets its contract: the lengths are judged first, then the bytes.
 use mathlib.Core.Path.{◌≡◌, sym, ap, ◌∙◌}
-use Prim.Native.Nat.{ℕ, ◌^◌}
-use native.Mathlib.Omega.{arith}
-use lib.ListN.{length, take}
-use Rattle.base.specs.Outcome.{gives, number}
-use Rattle.base.proofs.Size.{stop_count-pow}
-use Rattle.filled.specs.Filled.{flags, lengths_first}
-use Rattle.filled.proofs.Judged.{Fit, lengths-fit, lengths-refused, flags-decide}
+use lib.Seq.{length-take-le}
+use Rattle.std.proofs.Common.{Err, rules}
+use Rattle.base.specs.Outcome.{said}
+use Rattle.filled.proofs.Judged.{lengths-counted, lengths-refused, flags-decide}
 use Rattle.filled.proofs.judge.Goals as goal
 
-pub returns-then-refused-ne0 : goal.returns-then-refused-ne0
-returns-then-refused-ne0 c = lengths-refused _ _ _ _ _ _ _ c.judge_lengths-refused.ensures c.if-refused-ne0.true
+pub returns-in_err-judge_lengths : goal.returns-in_err-judge_lengths
+returns-in_err-judge_lengths c =
+    let handed : c.from_residual.result ≡ Err c.in_err-judge_lengths.field-0.0 = search rules in
+    ap said handed ∙ lengths-refused _ _ c.args.empties.now _ _ _ _ c.in_err-judge_lengths.ensures
 
-pub are_flags-requires : goal.are_flags-requires
-are_flags-requires c =
-    let passed : let a = c.args in number (lengths_first a.k a.table (length a.empties.now) a.list a.bits a.work (gives tt)) ≡ 0 = sym c.judge_lengths-refused.ensures ∙ c.if-refused-ne0.false in
-    let fit : let a = c.args in Fit a.k a.table a.empties.now a.list a.bits a.work = lengths-fit _ _ _ _ _ _ passed in
-    let count : c.stop_count.result ≡ 2 ^ c.args.k = c.stop_count.ensures ∙ stop_count-pow _ (omega (arith, fit.small)) in
-    rw count fit.bytes
+pub slice_bounds-are_flags-end : goal.slice_bounds-are_flags-end
+slice_bounds-are_flags-end c =
+    sym (length-take-le _ c.args.empties.now (lengths-counted _ _ c.args.empties.now _ _ _ _ c.stop_count.ensures c.in_ok-judge_lengths.ensures).bytes)
 
-pub returns-then-not-are_flags : goal.returns-then-not-are_flags
-returns-then-not-are_flags c =
-    let passed : let a = c.args in number (lengths_first a.k a.table (length a.empties.now) a.list a.bits a.work (gives tt)) ≡ 0 = sym c.judge_lengths-refused.ensures ∙ c.if-refused-ne0.false in
-    let fit : let a = c.args in Fit a.k a.table a.empties.now a.list a.bits a.work = lengths-fit _ _ _ _ _ _ passed in
-    let count : c.stop_count.result ≡ 2 ^ c.args.k = c.stop_count.ensures ∙ stop_count-pow _ (omega (arith, fit.small)) in
-    let read : let a = c.args in c.are_flags.result ≡ flags (take (2 ^ a.k) a.empties.now) = c.are_flags.ensures ∙ ap (λ (n : ℕ). flags (take n c.args.empties.now)) count in
-    flags-decide _ _ _ _ _ _ passed _ (sym (c.if-not-are_flags.true) ∙ read)
+pub returns-then-are_flags : goal.returns-then-are_flags
+returns-then-are_flags c = flags-decide _ _ c.args.empties.now _ _ _ _ c.stop_count.ensures c.in_ok-judge_lengths.ensures _ c.if-are_flags.ensures
 
-pub returns : goal.returns
-returns c =
-    let passed : let a = c.args in number (lengths_first a.k a.table (length a.empties.now) a.list a.bits a.work (gives tt)) ≡ 0 = sym c.judge_lengths-refused.ensures ∙ c.if-refused-ne0.false in
-    let fit : let a = c.args in Fit a.k a.table a.empties.now a.list a.bits a.work = lengths-fit _ _ _ _ _ _ passed in
-    let count : c.stop_count.result ≡ 2 ^ c.args.k = c.stop_count.ensures ∙ stop_count-pow _ (omega (arith, fit.small)) in
-    let read : let a = c.args in c.are_flags.result ≡ flags (take (2 ^ a.k) a.empties.now) = c.are_flags.ensures ∙ ap (λ (n : ℕ). flags (take n c.args.empties.now)) count in
-    flags-decide _ _ _ _ _ _ passed _ (sym (c.if-not-are_flags.false) ∙ read)
+pub returns-else-are_flags : goal.returns-else-are_flags
+returns-else-are_flags c = flags-decide _ _ c.args.empties.now _ _ _ _ c.stop_count.ensures c.in_ok-judge_lengths.ensures _ c.if-are_flags.ensures

@@ -1,24 +1,37 @@
 -- `filled::run` meets its contract.
-use mathlib.Core.Path.{refl, ap, ◌∙◌}
+use mathlib.Core.Path.{refl, sym, ap, ◌∙◌}
 use Prim.Native.Nat.{ℕ}
 use native.Mathlib.Omega.{arith}
-use lib.Count.{ones-le}
+use lib.Count.{ones, ones-le}
 use lib.ListN.{replicate}
-use Rattle.filled.proofs.Judged.{run-list, run-written}
+use lib.Seq.{length-take-le}
+use Rattle.std.proofs.Common.{rules}
+use Rattle.filled.proofs.Judged.{run-list, run-below, run-written}
 use Rattle.filled.proofs.run.Goals as goal
 
-pub overflow_cast-count : goal.overflow_cast-count
-overflow_cast-count c = omega (arith, ones-le c.args.tray.n c.args.tray.filled c.requires.0.inside, c.requires.0.small)
+pub wanted_list-total-requires-clause-count : goal.wanted_list-total-requires-clause-count
+wanted_list-total-requires-clause-count c =
+    let t = c.args.tray.now in
+    (refl, omega (arith, ones-le t.n t.filled t.inside, c.requires.buffers.0))
 
-pub wanted_list-total-requires : goal.wanted_list-total-requires
-wanted_list-total-requires c =
-    (c.requires.0, refl, omega (arith, ones-le c.args.tray.n c.args.tray.filled c.requires.0.inside, c.requires.1))
+pub slice_bounds-write_bits-end : goal.slice_bounds-write_bits-end
+slice_bounds-write_bits-end c =
+    let t = c.args.tray.now in
+    omega (arith, ones-le t.n t.filled t.inside, c.requires.buffers.0, c.wanted_list-total.auto.list)
 
-pub write_bits-requires : goal.write_bits-requires
-write_bits-requires c =
-    let l = run-list c.args.tray c.args.table.now c.args.work.now c.args.list.now _ c.requires.0 c.wanted_list-total.ensures.list_after in record { k_bound = (c.requires.0.small, c.requires.0.stops, l.0, c.requires.2); by_index = l.1 }
+pub slice_bounds-write_bits-end-2 : goal.slice_bounds-write_bits-end-2
+slice_bounds-write_bits-end-2 c =
+    let t = c.args.tray.now in
+    sym (length-take-le _ c.wanted_list-total.new.list (omega (arith, ones-le t.n t.filled t.inside, c.requires.buffers.0, c.wanted_list-total.auto.list)))
+
+pub write_bits-requires-clause-list : goal.write_bits-requires-clause-list
+write_bits-requires-clause-list c =
+    let t = c.args.tray.now in
+    run-below t _ (run-list t (ones t.filled) c.args.list.now _ refl c.wanted_list-total.ensures.list_after)
 
 pub returns : goal.returns
 returns c =
-    run-written _ _ _ _ c.args.work.now _ _ _ _ _ c.requires.0 refl c.wanted_list-total.ensures.value c.wanted_list-total.ensures.list_after c.write_bits.ensures
-    (c.clear.ensures ∙ ap (λ (n : ℕ). replicate n 0) c.wanted_list-total.auto.work)
+    let t = c.args.tray.now in
+    run-written t c.args.list.now c.args.bits.now c.args.work.now _ _ _ _ _ _ refl c.wanted_list-total.ensures.value c.wanted_list-total.ensures.list_after
+    (run-list t (ones t.filled) c.args.list.now _ refl c.wanted_list-total.ensures.list_after) c.write_bits.ensures
+    (c.fill.ensures.after (search rules) ∙ ap (λ (n : ℕ). replicate n 0) c.wanted_list-total.auto.work)

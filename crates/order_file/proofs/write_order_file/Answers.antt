@@ -1,5 +1,5 @@
 -- `order_file::write_order_file` meets its contract: everything is judged before a byte is written.
-use mathlib.Core.Path.{◌≡◌, sym, ap, ap₂, ◌∙◌}
+use mathlib.Core.Path.{◌≡◌, refl, sym, ap, ap₂, ◌∙◌}
 use mathlib.Core.List.{List}
 use Prim.Native.Nat.{ℕ, ◌^◌, ◌≤◌}
 use native.Mathlib.Omega.{arith}
@@ -16,10 +16,11 @@ use Rattle.tree.specs.Total.{entry, total}
 use Rattle.orders.specs.Allowed.{forks_of}
 use Rattle.orders.specs.Bits.{byte_count, bit_string}
 use Rattle.orders.specs.Lent.{order_in, JudgedOrder}
+use Rattle.orders.proofs.Calls.{done-number}
 use Rattle.order_file.specs.File.{order_file, file_for, file_size}
 use Rattle.order_file.proofs.Bytes.{length-file_for}
 use Rattle.order_file.proofs.Sizes.{true-sizes}
-use Rattle.order_file.proofs.Calls.{Writes, write-judged, write-refused, write-made}
+use Rattle.order_file.proofs.Calls.{Writes, write-judged, write-made}
 use Rattle.order_file.proofs.write_order_file.Goals as goal
 
 -- the bytes that were put are the file
@@ -36,19 +37,15 @@ written k sum order table bits room out u j fits e f g =
     let long : length file ≡ file_size (2 ^ k) = length-file_for k (entry (2 ^ k) table) o (length-take-le (2 ^ k) order j.long) in
     g ∙ ap₂ (λ (x : ℕ) (y : List ℕ). put out 0 (order_file k x o y)) t s ∙ put_front out file (omega arith)
 
-pub returns-then-refused-ne0 : goal.returns-then-refused-ne0
-returns-then-refused-ne0 c = write-refused _ _ _ _ _ c.judge_write-refused.ensures.number c.if-refused-ne0.true
-
 pub put_file-requires : goal.put_file-requires
 put_file-requires c =
-    let judged : let a = c.args in Writes a.k a.order.now a.table.now (length a.out.now) = write-judged _ _ _ _ (sym c.judge_write-refused.ensures.number ∙ c.if-refused-ne0.false) in
-    let w = judged in
-    (w.judged.small, w.judged.long, omega (arith, (true-sizes _ w.judged.small).few, c.judge_write-refused.auto.bits), w.long)
+    let w = write-judged _ _ _ _ (done-number _ c.in_ok-judge_write.ensures.said) in
+    (w.judged.small, w.judged.long, omega (arith, (true-sizes _ w.judged.small).few, c.judge_write.auto.bits), w.long)
 
 pub returns : goal.returns
 returns c =
-    let judged : let a = c.args in Writes a.k a.order.now a.table.now (length a.out.now) = write-judged _ _ _ _ (sym c.judge_write-refused.ensures.number ∙ c.if-refused-ne0.false) in
-    let w = judged in
-    let a = c.args in write-made _ _ a.table.now _ _ _ w
+    let a = c.args in
+    let w : Writes a.k a.order.now a.table.now (length a.out.now) = write-judged _ _ _ _ (done-number _ c.in_ok-judge_write.ensures.said) in
+    write-made _ _ a.table.now _ _ _ w
     (c.file_size.ensures ∙ ap file_size (stop_count-pow _ w.judged.small) ∙ sym (length-file_for _ _ _ (length-take-le _ a.order.now w.judged.long)))
-    (written _ _ _ a.table.now _ _ _ _ w.judged w.long c.sum_moves.ensures (c.judge_write-refused.ensures.string c.if-refused-ne0.false) c.put_file.ensures)
+    (written _ _ _ a.table.now _ _ _ _ w.judged w.long c.sum_moves.ensures (c.in_ok-judge_write.ensures.string refl) c.put_file.ensures)

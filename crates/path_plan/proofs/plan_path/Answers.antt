@@ -1,31 +1,33 @@
 -- `path_plan::plan_path` meets its contract: the head, the lengths, the table and then the planner.
-use mathlib.Core.Path.{◌≡◌, sym, ◌∙◌}
-use lib.ListN.{length}
-use Rattle.base.specs.Outcome.{number}
+use Rattle.std.proofs.lemmas.Result.{err_from_is_err_and}
 use Rattle.path.proofs.JudgeLaws.{judged-head}
-use Rattle.planner.specs.Plan.{plan_room}
-use Rattle.path_plan.proofs.PathPlan.{path-refused, lengths-refused, table-refused, table-planned}
+use Rattle.path_plan.proofs.PathPlan.{path-refused, lengths-refused, table-refused, table-planned, never-refused}
 use Rattle.path_plan.proofs.plan_path.Goals as goal
 
-pub returns-then-refused-ne0 : goal.returns-then-refused-ne0
-returns-then-refused-ne0 c = path-refused _ _ _ _ _ _ _ (judged-head _ _ _ _ c.judge_head-head.ensures c.if-refused-ne0.true)
+pub returns-in_err-path : goal.returns-in_err-path
+returns-in_err-path c =
+    let p = err_from_is_err_and c.from_residual.result c.from_residual.ensures.1 in
+    rw (p.1, p.2) (path-refused _ _ _ _ _ _ _ (judged-head _ _ _ _ c.in_err-path.ensures.head))
 
-pub returns-then-room-ne0 : goal.returns-then-room-ne0
-returns-then-room-ne0 c =
+pub returns-in_err-judge_lengths : goal.returns-in_err-judge_lengths
+returns-in_err-judge_lengths c =
     let a = c.args in
-    path-refused _ _ _ _ _ _ _
-    (lengths-refused _ _ a.table.now a.order.now a.totals.now a.pivots.now _ c.judge_head-head.ensures c.if-refused-ne0.false _ c.judge_lengths-room.ensures c.if-room-ne0.true)
+    let h = c.in_ok-path.ensures in
+    let p = err_from_is_err_and c.from_residual-in_err-judge_lengths.result c.from_residual-in_err-judge_lengths.ensures.1 in
+    rw (p.1, p.2) (path-refused _ _ _ _ _ _ _ (lengths-refused _ _ a.table.now a.order.now a.totals.now a.pivots.now c.in_ok-path.path h.head h.same _ c.in_err-judge_lengths.ensures))
 
-pub returns-in-Made : goal.returns-in-Made
-returns-in-Made c =
-    let fits : let a = c.args in number (plan_room c.judge_head-head.result.k (length a.table.now) (length a.order.now) (length a.totals.now) (length a.pivots.now)) ≡ 0 = sym c.judge_lengths-room.ensures ∙ c.if-room-ne0.false in
-    rw c.with_heading.ensures
-    (table-planned _ _ _ _ _ _ c.judge_head-head.result c.judge_head-head.ensures c.if-refused-ne0.false fits _ _ _ _ _
-    (rw c.in-Made.is at c.table_from-made.ensures)
-    c.plan.ensures)
+pub returns-in_err-table_from : goal.returns-in_err-table_from
+returns-in_err-table_from c =
+    let h = c.in_ok-path.ensures in
+    let p = err_from_is_err_and c.from_residual-in_err-table_from.result c.from_residual-in_err-table_from.ensures.1 in
+    rw (p.1, p.2) (table-refused _ _ _ _ _ _ c.in_ok-path.path h.head h.same c.in_ok-judge_lengths.ensures _ _ c.in_err-table_from.ensures)
 
-pub returns-in-Refused : goal.returns-in-Refused
-returns-in-Refused c =
-    let fits : let a = c.args in number (plan_room c.judge_head-head.result.k (length a.table.now) (length a.order.now) (length a.totals.now) (length a.pivots.now)) ≡ 0 = sym c.judge_lengths-room.ensures ∙ c.if-room-ne0.false in
-    table-refused _ _ _ _ _ _ c.judge_head-head.result c.judge_head-head.ensures c.if-refused-ne0.false fits _ _
-    (rw c.in-Refused.is at c.table_from-made.ensures)
+pub returns-in_err-planned : goal.returns-in_err-planned
+returns-in_err-planned c =
+    let h = c.in_ok-path.ensures in
+    never-refused _ _ _ _ _ _ c.in_ok-path.path h.head h.same c.in_ok-judge_lengths.ensures _ _ _ _ _ c.in_ok-table_from.ensures c.in_err-planned.ensures
+
+pub returns : goal.returns
+returns c =
+    let h = c.in_ok-path.ensures in
+    table-planned _ _ _ _ _ _ c.in_ok-path.path h.head h.same c.in_ok-judge_lengths.ensures _ _ _ _ _ c.in_ok-table_from.ensures c.in_ok-planned.ensures

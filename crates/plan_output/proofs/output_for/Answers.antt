@@ -2,9 +2,11 @@
 use mathlib.Core.Path.{refl}
 use Rattle.plan_output.proofs.Written.{output-file, output-refused}
 use Rattle.plan_output.proofs.output_for.Goals as goal
+use Rattle.plan_output.proofs.output_for.Goals.{in-Ok, in-Err}
 
-pub returns-in-Wrote : goal.returns-in-Wrote
-returns-in-Wrote c = output-file _ _ _ _ refl c.plan_file-answer.ensures _ c.in-Wrote.is
-
-pub returns-in-Refused : goal.returns-in-Refused
-returns-in-Refused c = output-refused _ _ _ _ refl c.plan_file-answer.ensures _ _ c.in-Refused.is c.put_refused.ensures
+pub returns : goal.returns
+returns c =
+    elim c.match-plan_file.branch [
+      | in-Ok w ↦ rw w.result-is (output-file c.args.path.now _ _ _ refl c.plan_file.ensures _ w.in-Ok.is)
+      | in-Err w ↦ rw w.result-is (output-refused c.args.path.now _ _ _ refl c.plan_file.ensures _ _ _ w.in-Err.is w.refusal.ensures.whole w.refusal.ensures.size)
+    ]

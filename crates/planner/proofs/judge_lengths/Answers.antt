@@ -33,9 +33,6 @@ unfolding plan_room plan_fits
 returns-then-order-n c =
     rw (le-leb _ _ c.if-k-gt-MAX_K.false, ← count c.before.before, eq-eqb _ _ c.if-table-n.false, lt-leb _ _ c.if-order-n.true)
 
-pub overflow_add-n : goal.overflow_add-n
-overflow_add-n c = omega (arith, few c.before.before)
-
 pub returns-then-totals-n : goal.returns-then-totals-n
 unfolding plan_room plan_fits
 returns-then-totals-n c =

@@ -1,35 +1,29 @@
 -- `planner::judge_places` meets its contract: the planner's tests, and then the second table's length.
-use mathlib.Core.Path.{◌≡◌, sym, ap, ◌∙◌}
-use Prim.Native.Nat.{◌*◌, ◌^◌}
 use native.Mathlib.Omega.{arith}
-use Rattle.base.proofs.Size.{stop_count-pow, pow-le-1024}
+use borrow.Author.Tests.{eq-eqb, ne_eqb}
+use Rattle.std.proofs.lemmas.Result.{err_from_is_err_and}
 use Rattle.rows.proofs.Table.{square-small}
-use Rattle.base.specs.Outcome.{number}
-use Rattle.planner.specs.Plan.{plan_room}
-use Rattle.planner.proofs.Judged.{judged}
-use Rattle.planner.proofs.Places.{places-first, places-other, places-right}
+use Rattle.planner.specs.Places.{places_room}
+use Rattle.planner.proofs.Judged.{judged-ok, fit-count, fit-few}
 use Rattle.planner.proofs.judge_places.Goals as goal
-use Rattle.planner.proofs.judge_places.Goals.{After-stop_count-n}
 
--- the planner's tests are passed
-passes : (c : After-stop_count-n) → let a = c.args in number (plan_room a.k a.table a.order a.totals a.pivots) ≡ 0
-passes c = sym c.judge_lengths-refused.ensures ∙ c.if-refused-ne0.false
-
--- 2^k stops
-count : (c : After-stop_count-n) → c.stop_count-n.result ≡ 2 ^ c.args.k
-count c = let a = c.args in c.stop_count-n.ensures ∙ stop_count-pow a.k (judged a.k a.table a.order a.totals a.pivots (passes c)).small
-
-pub returns-then-refused-ne0 : goal.returns-then-refused-ne0
-returns-then-refused-ne0 c = places-first _ _ _ _ _ _ _ c.judge_lengths-refused.ensures c.if-refused-ne0.true
+pub returns-in_err-judge_lengths : goal.returns-in_err-judge_lengths
+unfolding places_room
+returns-in_err-judge_lengths c = let p = err_from_is_err_and c.from_residual.result c.from_residual.ensures.1 in rw (p.1, p.2, ← c.in_err-judge_lengths.ensures)
 
 pub overflow_mul-n : goal.overflow_mul-n
 overflow_mul-n c =
-    let a = c.args in
-    omega (arith, square-small c.stop_count-n.result (omega (arith, count c, pow-le-1024 a.k (judged a.k a.table a.order a.totals a.pivots (passes c)).small)))
+    let f = judged-ok c.in_ok-judge_lengths.ensures in
+    omega (arith, square-small c.stop_count-n.result (fit-few f c.stop_count-n.ensures))
 
 pub returns-then-places-n : goal.returns-then-places-n
+unfolding places_room
 returns-then-places-n c =
-    places-other _ _ _ _ _ _ (passes c.before) (λ e. c.if-places-n.true (e ∙ ap (λ n. n * n) (sym (count c.before))))
+    let f = judged-ok c.in_ok-judge_lengths.ensures in
+    rw (f.same, ← fit-count f c.stop_count-n.ensures, ne_eqb _ _ c.if-places-n.true)
 
 pub returns : goal.returns
-returns c = places-right _ _ _ _ _ _ (passes c.before) (c.if-places-n.false ∙ ap (λ n. n * n) (count c.before))
+unfolding places_room
+returns c =
+    let f = judged-ok c.in_ok-judge_lengths.ensures in
+    rw (f.same, ← fit-count f c.stop_count-n.ensures, eq-eqb _ _ c.if-places-n.false)

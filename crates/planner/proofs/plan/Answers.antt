@@ -1,105 +1,28 @@
 -- `planner::plan` meets its contract: the costs come from a table.
-use mathlib.Core.Path.{◌≡◌, refl, sym, ap, ◌∙◌}
-use Prim.Native.Nat.{◌+◌, ◌*◌, ◌^◌, ◌≤◌}
-use native.Mathlib.Omega.{arith}
-use lib.ListN.{length}
-use lib.Seq.{length-take-le}
-use Rattle.base.proofs.Size.{stop_count-pow, pow-le-1024}
-use Rattle.rows.specs.declared.Costs.{Costs}
-use Rattle.rows.proofs.Table.{readable-table}
-use Rattle.planner.proofs.Judged.{Fit, judged, plans-refused, plans-made}
-use Rattle.planner.proofs.ByTable.{both-plan, table-left}
+use Prim.Native.Nat.{◌^◌}
+use Rattle.tree.specs.Total.{entry}
+use Rattle.tree.proofs.Open.{length-wanted}
+use Rattle.planner.specs.Plan.{wanted_plan}
+use Rattle.planner.proofs.Judged.{judged-ok, fit-count, fit-few, fit-square, fit-room}
+use Rattle.planner.proofs.ByTable.{table-plan, has-plan}
+use Rattle.planner.proofs.Written.{written-best, answers-plan}
 use Rattle.planner.proofs.plan.Goals as goal
 
-pub returns-then-refused-ne0 : goal.returns-then-refused-ne0
-returns-then-refused-ne0 c =
-    let a = c.args in plans-refused a.k a.table.now a.order.now a.totals.now a.pivots.now _ c.judge_lengths-refused.ensures c.if-refused-ne0.true
+pub invariant_of-costs : goal.invariant_of-costs
+invariant_of-costs c =
+    let f = judged-ok c.in_ok-judge_lengths.ensures in
+    let e = c.stop_count.ensures in
+    record { small = fit-few f e; square = fit-square f e f.square }
 
-pub slice_bounds-run-end : goal.slice_bounds-run-end
-slice_bounds-run-end c = refl
-
-pub slice_bounds-none-end : goal.slice_bounds-none-end
-slice_bounds-none-end c = omega arith
-
-pub slice_bounds-run-end-2 : goal.slice_bounds-run-end-2
-slice_bounds-run-end-2 c = refl
-
-pub slice_bounds-run-end-3 : goal.slice_bounds-run-end-3
-slice_bounds-run-end-3 c =
-    let fit : let a = c.args in Fit a.k (length a.table.now) (length a.order.now) (length a.totals.now) (length a.pivots.now) = judged _ _ _ _ _ (sym c.judge_lengths-refused.ensures ∙ c.if-refused-ne0.false) in
-    let count : c.stop_count-n.result ≡ 2 ^ c.args.k = c.stop_count-n.ensures ∙ stop_count-pow _ fit.small in
-    let lent : let a = c.args in let n = c.stop_count-n.result in (n ≤ length a.order.now) × (n + n ≤ length a.totals.now) × (n + n ≤ length a.pivots.now) × (n ≤ 1024) = let f = fit in (omega (arith, count, f.places), omega (arith, count, f.rows), omega (arith, count, f.marks), omega (arith, count, pow-le-1024 c.args.k f.small)) in
-    lent.0
-
-pub slice_bounds-run-end-4 : goal.slice_bounds-run-end-4
-slice_bounds-run-end-4 c =
-    let fit : let a = c.args in Fit a.k (length a.table.now) (length a.order.now) (length a.totals.now) (length a.pivots.now) = judged _ _ _ _ _ (sym c.judge_lengths-refused.ensures ∙ c.if-refused-ne0.false) in
-    let count : c.stop_count-n.result ≡ 2 ^ c.args.k = c.stop_count-n.ensures ∙ stop_count-pow _ fit.small in
-    let lent : let a = c.args in let n = c.stop_count-n.result in (n ≤ length a.order.now) × (n + n ≤ length a.totals.now) × (n + n ≤ length a.pivots.now) × (n ≤ 1024) = let f = fit in (omega (arith, count, f.places), omega (arith, count, f.rows), omega (arith, count, f.marks), omega (arith, count, pow-le-1024 c.args.k f.small)) in
-    sym (length-take-le _ _ lent.0)
-
-pub overflow_add-n : goal.overflow_add-n
-overflow_add-n c =
-    let fit : let a = c.args in Fit a.k (length a.table.now) (length a.order.now) (length a.totals.now) (length a.pivots.now) = judged _ _ _ _ _ (sym c.judge_lengths-refused.ensures ∙ c.if-refused-ne0.false) in
-    let count : c.stop_count-n.result ≡ 2 ^ c.args.k = c.stop_count-n.ensures ∙ stop_count-pow _ fit.small in
-    let lent : let a = c.args in let n = c.stop_count-n.result in (n ≤ length a.order.now) × (n + n ≤ length a.totals.now) × (n + n ≤ length a.pivots.now) × (n ≤ 1024) = let f = fit in (omega (arith, count, f.places), omega (arith, count, f.rows), omega (arith, count, f.marks), omega (arith, count, pow-le-1024 c.args.k f.small)) in
-    omega (arith, lent)
-
-pub slice_bounds-run-end-5 : goal.slice_bounds-run-end-5
-slice_bounds-run-end-5 c =
-    let fit : let a = c.args in Fit a.k (length a.table.now) (length a.order.now) (length a.totals.now) (length a.pivots.now) = judged _ _ _ _ _ (sym c.judge_lengths-refused.ensures ∙ c.if-refused-ne0.false) in
-    let count : c.stop_count-n.result ≡ 2 ^ c.args.k = c.stop_count-n.ensures ∙ stop_count-pow _ fit.small in
-    let lent : let a = c.args in let n = c.stop_count-n.result in (n ≤ length a.order.now) × (n + n ≤ length a.totals.now) × (n + n ≤ length a.pivots.now) × (n ≤ 1024) = let f = fit in (omega (arith, count, f.places), omega (arith, count, f.rows), omega (arith, count, f.marks), omega (arith, count, pow-le-1024 c.args.k f.small)) in
-    lent.1
-
-pub slice_bounds-run-end-6 : goal.slice_bounds-run-end-6
-slice_bounds-run-end-6 c =
-    let fit : let a = c.args in Fit a.k (length a.table.now) (length a.order.now) (length a.totals.now) (length a.pivots.now) = judged _ _ _ _ _ (sym c.judge_lengths-refused.ensures ∙ c.if-refused-ne0.false) in
-    let count : c.stop_count-n.result ≡ 2 ^ c.args.k = c.stop_count-n.ensures ∙ stop_count-pow _ fit.small in
-    let lent : let a = c.args in let n = c.stop_count-n.result in (n ≤ length a.order.now) × (n + n ≤ length a.totals.now) × (n + n ≤ length a.pivots.now) × (n ≤ 1024) = let f = fit in (omega (arith, count, f.places), omega (arith, count, f.rows), omega (arith, count, f.marks), omega (arith, count, pow-le-1024 c.args.k f.small)) in
-    sym (length-take-le _ _ lent.1)
-
-pub overflow_add-n-2 : goal.overflow_add-n-2
-overflow_add-n-2 c =
-    let fit : let a = c.args in Fit a.k (length a.table.now) (length a.order.now) (length a.totals.now) (length a.pivots.now) = judged _ _ _ _ _ (sym c.judge_lengths-refused.ensures ∙ c.if-refused-ne0.false) in
-    let count : c.stop_count-n.result ≡ 2 ^ c.args.k = c.stop_count-n.ensures ∙ stop_count-pow _ fit.small in
-    let lent : let a = c.args in let n = c.stop_count-n.result in (n ≤ length a.order.now) × (n + n ≤ length a.totals.now) × (n + n ≤ length a.pivots.now) × (n ≤ 1024) = let f = fit in (omega (arith, count, f.places), omega (arith, count, f.rows), omega (arith, count, f.marks), omega (arith, count, pow-le-1024 c.args.k f.small)) in
-    omega (arith, lent)
-
-pub slice_bounds-run-end-7 : goal.slice_bounds-run-end-7
-slice_bounds-run-end-7 c =
-    let fit : let a = c.args in Fit a.k (length a.table.now) (length a.order.now) (length a.totals.now) (length a.pivots.now) = judged _ _ _ _ _ (sym c.judge_lengths-refused.ensures ∙ c.if-refused-ne0.false) in
-    let count : c.stop_count-n.result ≡ 2 ^ c.args.k = c.stop_count-n.ensures ∙ stop_count-pow _ fit.small in
-    let lent : let a = c.args in let n = c.stop_count-n.result in (n ≤ length a.order.now) × (n + n ≤ length a.totals.now) × (n + n ≤ length a.pivots.now) × (n ≤ 1024) = let f = fit in (omega (arith, count, f.places), omega (arith, count, f.rows), omega (arith, count, f.marks), omega (arith, count, pow-le-1024 c.args.k f.small)) in
-    lent.2
-
-pub slice_bounds-run-end-8 : goal.slice_bounds-run-end-8
-slice_bounds-run-end-8 c =
-    let fit : let a = c.args in Fit a.k (length a.table.now) (length a.order.now) (length a.totals.now) (length a.pivots.now) = judged _ _ _ _ _ (sym c.judge_lengths-refused.ensures ∙ c.if-refused-ne0.false) in
-    let count : c.stop_count-n.result ≡ 2 ^ c.args.k = c.stop_count-n.ensures ∙ stop_count-pow _ fit.small in
-    let lent : let a = c.args in let n = c.stop_count-n.result in (n ≤ length a.order.now) × (n + n ≤ length a.totals.now) × (n + n ≤ length a.pivots.now) × (n ≤ 1024) = let f = fit in (omega (arith, count, f.places), omega (arith, count, f.rows), omega (arith, count, f.marks), omega (arith, count, pow-le-1024 c.args.k f.small)) in
-    sym (length-take-le _ _ lent.2)
-
-pub run-solved-requires : goal.run-solved-requires
-run-solved-requires c =
-    let fit : let a = c.args in Fit a.k (length a.table.now) (length a.order.now) (length a.totals.now) (length a.pivots.now) = judged _ _ _ _ _ (sym c.judge_lengths-refused.ensures ∙ c.if-refused-ne0.false) in
-    let count : c.stop_count-n.result ≡ 2 ^ c.args.k = c.stop_count-n.ensures ∙ stop_count-pow _ fit.small in
-    let lent : let a = c.args in let n = c.stop_count-n.result in (n ≤ length a.order.now) × (n + n ≤ length a.totals.now) × (n + n ≤ length a.pivots.now) × (n ≤ 1024) = let f = fit in (omega (arith, count, f.places), omega (arith, count, f.rows), omega (arith, count, f.marks), omega (arith, count, pow-le-1024 c.args.k f.small)) in
-    let costs : Costs = record { n = c.stop_count-n.result; by = 0; closing = c.stop_count-n.result; version = 0; fork = 0; level = 0; state = 0 } in
-    let f = fit in
-    let e = count in
-    let l = lent in record {
-      readable = readable-table l.3 refl (record { square = fit.square ∙ ap (λ x. x * x) (sym e); extra = refl; alone = refl; free = refl });
-      lent_sizes = record { k = c.args.k; small = f.small; stops = e; places = length-take-le _ _ l.0; rows = length-take-le _ _ l.1; marks = length-take-le _ _ l.2 };
-      n_value = (e, both-plan costs _ _ e (record { none = omega arith; tables = record { square = fit.square ∙ ap (λ x. x * x) (sym e); extra = refl; alone = refl; free = refl } }));
-    }
+pub run-requires : goal.run-requires
+run-requires c =
+    let f = judged-ok c.in_ok-judge_lengths.ensures in
+    let e = c.stop_count.ensures in
+    record { room_for = fit-room f e; has_plan = has-plan (table-plan c.args.k c.args.table.now (fit-count f e)) }
 
 pub returns : goal.returns
 returns c =
-    let fit : let a = c.args in Fit a.k (length a.table.now) (length a.order.now) (length a.totals.now) (length a.pivots.now) = judged _ _ _ _ _ (sym c.judge_lengths-refused.ensures ∙ c.if-refused-ne0.false) in
-    let count : c.stop_count-n.result ≡ 2 ^ c.args.k = c.stop_count-n.ensures ∙ stop_count-pow _ fit.small in
-    let costs : Costs = record { n = c.stop_count-n.result; by = 0; closing = c.stop_count-n.result; version = 0; fork = 0; level = 0; state = 0 } in
-    let a = c.args in
-    let e = count in
-    let zero = sym c.judge_lengths-refused.ensures ∙ c.if-refused-ne0.false in
-    plans-made a.k c.stop_count-n.result a.table.now a.order.now a.totals.now a.pivots.now e zero (table-left costs _ c.run-solved.result e (record { none = omega arith; tables = record { square = fit.square ∙ ap (λ x. x * x) (sym e); extra = refl; alone = refl; free = refl } }) c.run-solved.ensures)
+    let f = judged-ok c.in_ok-judge_lengths.ensures in
+    let e = fit-count f c.stop_count.ensures in
+    let k = c.args.k in
+    written-best (wanted_plan k c.args.table.now) c.run.result e (rw f.same) (length-wanted k (entry (2 ^ k) c.args.table.now)) (table-plan k c.args.table.now e) (answers-plan k (wanted_plan k c.args.table.now) c.run.result) c.run.ensures

@@ -1,6 +1,6 @@
 -- `times::judge_size` meets its contract: k, then the table's size.
 use mathlib.Core.Path.{◌≡◌, ◌∙◌}
-use Prim.Native.Nat.{◌*◌, ◌^◌}
+use Prim.Native.Nat.{◌^◌}
 use native.Mathlib.Omega.{arith}
 use borrow.Author.Tests.{le-leb, lt-leb, eq-eqb, ne_eqb}
 use Rattle.base.proofs.Size.{stop_count-pow, pow-le-1024}
@@ -25,16 +25,8 @@ overflow_mul-n c =
 
 pub returns-then-size-n : goal.returns-then-size-n
 unfolding table_room
-returns-then-size-n c =
-    let size = c.args.size in
-    let n = c.stop_count-n.result in
-    let other : size ≡ n * n → ⊥ = λ e. omega (arith, c.if-size-n.true, e) in
-    rw (le-leb _ _ c.if-k-gt-MAX_K.false, ← count c.before, ne_eqb _ _ other)
+returns-then-size-n c = rw (le-leb _ _ c.if-k-gt-MAX_K.false, ← count c.before, ne_eqb _ _ c.if-size-n.true)
 
 pub returns : goal.returns
 unfolding table_room
-returns c =
-    let size = c.args.size in
-    let n = c.stop_count-n.result in
-    let square : size ≡ n * n = omega (arith, c.if-size-n.false) in
-    rw (le-leb _ _ c.if-k-gt-MAX_K.false, ← count c.before, eq-eqb _ _ square)
+returns c = rw (le-leb _ _ c.if-k-gt-MAX_K.false, ← count c.before, eq-eqb _ _ c.if-size-n.false)

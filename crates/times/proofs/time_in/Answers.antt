@@ -1,12 +1,23 @@
--- `times::time_in` meets its contract: the time between the two stops of the bytes.
-use mathlib.Core.Path.{◌≡◌}
-use Prim.Native.Nat.{ℕ}
-use Rattle.stop.specs.declared.Stop.{Stop}
+-- `times::time_in` meets its contract: 0 from a stop to itself, and 0 in place of a refusal.
+use Rattle.std.proofs.Common.{◌≡◌, ℕ, Result, Ok, Err, refl, ap, ◌∙◌}
+use Rattle.std.specs.Result.{result_unwrap_or}
+use borrow.Author.Tests.{eq-eqb, ne_eqb}
+use Rattle.base.specs.declared.Refusal.{Refusal}
+use Rattle.base.specs.Outcome.{said, value}
 use Rattle.times.specs.InPath.{time_of}
 use Rattle.times.proofs.time_in.Goals as goal
 
-between : (i : ℕ) (a x : Stop) (j : ℕ) (b y : Stop) (t : ℕ) → a ≡ x → b ≡ y → t ≡ time_of i a j b → t ≡ time_of i x j y
-between i a x j b y t ea eb e = rw (← ea, ← eb) e
+-- what a call gives, or 0
+or_0 : (r : Result ℕ Refusal) → result_unwrap_or r 0 ≡ value 0 (said r)
+or_0 (Ok t) = refl
+or_0 (Err r) = refl
+
+pub returns-then-from-to : goal.returns-then-from-to
+unfolding time_of
+returns-then-from-to c = rw (eq-eqb _ _ c.if-from-to.true)
 
 pub returns : goal.returns
-returns c = between _ _ _ _ _ _ _ c.stop_from.ensures c.stop_from-2.ensures c.time_of.ensures
+unfolding time_of
+returns c =
+    rw (ne_eqb _ _ c.if-from-to.false, ← c.stop.ensures, ← c.stop-2.ensures)
+    (c.unwrap_or.ensures ∙ or_0 c.move_time.result ∙ ap (value 0) c.move_time.ensures)

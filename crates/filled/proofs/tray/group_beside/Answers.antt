@@ -27,24 +27,6 @@ first-is i t a b = shl_exact 6 t 64 (xor_lt 6 (i / 2 ^ t) 1 (omega (arith, shr_l
 size_is : (t : ℕ) → t < 6 → 1 * 2 ^ t % 2 ^ 64 ≡ 2 ^ t
 size_is t b = shl_exact 1 t 64 (omega arith) (omega arith) ∙ one-mul (2 ^ t)
 
-pub overflow_cast-result : goal.overflow_cast-result
-overflow_cast-result c = omega (arith, few c)
-
-pub overflow_shr-result : goal.overflow_shr-result
-overflow_shr-result c = omega (arith, few c)
-
-pub overflow_cast-result-2 : goal.overflow_cast-result-2
-overflow_cast-result-2 c = omega (arith, few c)
-
-pub overflow_shl-result : goal.overflow_shl-result
-overflow_shl-result c = omega (arith, few c)
-
-pub overflow_cast-result-3 : goal.overflow_cast-result-3
-overflow_cast-result-3 c = omega (arith, few c)
-
-pub overflow_shl-result-2 : goal.overflow_shl-result-2
-overflow_shl-result-2 c = omega (arith, few c)
-
 pub returns : goal.returns
 returns c = (
   first-is c.args.i (count_trailing_zeros 64 c.args.p) (omega arith) (few c) ∙ ap (beside_of c.args.i) (count c),

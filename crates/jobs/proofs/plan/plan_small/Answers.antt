@@ -9,28 +9,28 @@ use Rattle.jobs.proofs.plan.plan_small.Goals as goal
 
 pub overflow_mul-size : goal.overflow_mul-size
 overflow_mul-size c =
-    let count : c.stop_count-n.result ≡ 2 ^ c.args.k = c.stop_count-n.ensures ∙ stop_count-pow _ (omega (arith, c.requires.0)) in
+    let count : c.stop_count-n.result ≡ 2 ^ c.args.path.k = c.stop_count-n.ensures ∙ stop_count-pow _ (omega (arith, c.requires.0)) in
     let few : c.stop_count-n.result ≤ 64 = rw count (pow-le-64 _ c.requires.0) in
     let square : c.stop_count-n.result * c.stop_count-n.result ≤ 4096 = square-le-4096 _ few in
     omega (arith, square)
 
 pub slice_bounds-table-end : goal.slice_bounds-table-end
 slice_bounds-table-end c =
-    let count : c.stop_count-n.result ≡ 2 ^ c.args.k = c.stop_count-n.ensures ∙ stop_count-pow _ (omega (arith, c.requires.0)) in
+    let count : c.stop_count-n.result ≡ 2 ^ c.args.path.k = c.stop_count-n.ensures ∙ stop_count-pow _ (omega (arith, c.requires.0)) in
     let few : c.stop_count-n.result ≤ 64 = rw count (pow-le-64 _ c.requires.0) in
     let square : c.stop_count-n.result * c.stop_count-n.result ≤ 4096 = square-le-4096 _ few in
     square
 
 pub slice_bounds-file_in-end : goal.slice_bounds-file_in-end
 slice_bounds-file_in-end c =
-    let count : c.stop_count-n.result ≡ 2 ^ c.args.k = c.stop_count-n.ensures ∙ stop_count-pow _ (omega (arith, c.requires.0)) in
+    let count : c.stop_count-n.result ≡ 2 ^ c.args.path.k = c.stop_count-n.ensures ∙ stop_count-pow _ (omega (arith, c.requires.0)) in
     let few : c.stop_count-n.result ≤ 64 = rw count (pow-le-64 _ c.requires.0) in
     let square : c.stop_count-n.result * c.stop_count-n.result ≤ 4096 = square-le-4096 _ few in
     sym (length-take-le _ _ square)
 
 pub file_in-requires : goal.file_in-requires
 file_in-requires c =
-    let count : c.stop_count-n.result ≡ 2 ^ c.args.k = c.stop_count-n.ensures ∙ stop_count-pow _ (omega (arith, c.requires.0)) in
+    let count : c.stop_count-n.result ≡ 2 ^ c.args.path.k = c.stop_count-n.ensures ∙ stop_count-pow _ (omega (arith, c.requires.0)) in
     let few : c.stop_count-n.result ≤ 64 = rw count (pow-le-64 _ c.requires.0) in
     let square : c.stop_count-n.result * c.stop_count-n.result ≤ 4096 = square-le-4096 _ few in
     record {

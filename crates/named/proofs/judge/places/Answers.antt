@@ -9,4 +9,4 @@ returns-then-marks-lt-NAMES c = sym (places-none _ _ _ _ _ c.if-marks-lt-NAMES.t
 
 pub returns : goal.returns
 returns c =
-    places-made _ _ _ _ _ _ _ _ (omega (arith, c.if-marks-lt-NAMES.false)) c.fewer.ensures c.fewer-2.ensures c.fewer-3.ensures
+    places-made _ _ _ _ _ _ _ _ (omega (arith, c.if-marks-lt-NAMES.false)) c.min.ensures c.min-2.ensures c.min-3.ensures

@@ -17,9 +17,6 @@ unfolding end_bytes
 written long at place out u e f g =
     g ∙ ap₂ (λ (x : ℕ) (y : List ℕ). put out x y) f (sym (append-nil (bytes_of 2 long ++ bytes_of 2 3)) ∙ record-parts 3 long [] e)
 
-pub overflow_cast-record_length : goal.overflow_cast-record_length
-overflow_cast-record_length c = record { fits = omega (arith, c.record_length.ensures, end-length 5) }
-
 pub returns : goal.returns
 returns c =
-    written _ _ _ _ _ (c.record_length.ensures ∙ end-length 5) (c.end_place.ensures ∙ ap end_place (stop_count-pow c.args.k c.requires)) c.put_pair.ensures
+    written _ _ _ _ _ (omega (arith, end-length 5)) (c.end_place.ensures ∙ ap end_place (stop_count-pow c.args.k c.requires)) c.put_record.ensures

@@ -1,5 +1,5 @@
 -- `order_file::put::put_file` meets its contract: the four records, one after the other.
-use mathlib.Core.Path.{◌≡◌, ap, ◌∙◌}
+use mathlib.Core.Path.{◌≡◌, sym, ap, ◌∙◌}
 use mathlib.Core.List.{List, ◌++◌}
 use Prim.Native.Nat.{ℕ, ◌+◌, ◌*◌, ◌^◌, ◌≤◌}
 use native.Mathlib.Omega.{arith}
@@ -32,19 +32,15 @@ written k n sum order string out t u v w e long bytes room a b c d =
     put_two out 0 (h ++ s ++ f) end_bytes v w (end_place (2 ^ k)) (omega (arith, length-end)) (omega arith) three d
     ∙ ap (λ (x : ℕ). put out 0 (h ++ stops_bytes sum (take x order) ++ f ++ end_bytes)) e
 
-pub put_head-requires : goal.put_head-requires
-put_head-requires c = omega (arith, c.requires.3)
+pub slice_bounds-put_stops-end : goal.slice_bounds-put_stops-end
+slice_bounds-put_stops-end c =
+    sym (length-take-le _ c.args.order.now (omega (arith, c.stop_count.ensures, stop_count-pow _ c.requires.0, c.requires.1)))
 
 pub put_stops-requires : goal.put_stops-requires
 put_stops-requires c =
     let count : c.stop_count.result ≡ 2 ^ c.args.k = c.stop_count.ensures ∙ stop_count-pow _ c.requires.0 in
-    (omega (arith, count, pow-le-1024 c.args.k c.requires.0), omega (arith, count, c.requires.1), omega (arith, count, c.requires.3, c.put_head.auto.out))
-
-pub put_forks-requires : goal.put_forks-requires
-put_forks-requires c = (c.requires.0, c.requires.2, omega (arith, c.requires.3, c.put_stops.auto.out, c.put_head.auto.out))
-
-pub put_end-requires : goal.put_end-requires
-put_end-requires c = c.requires.0
+    let n : length (take c.stop_count.result c.args.order.now) ≡ c.stop_count.result = length-take-le _ c.args.order.now (omega (arith, count, c.requires.1)) in
+    (omega (arith, n, count, pow-le-1024 c.args.k c.requires.0), omega (arith, n, count, c.requires.3, c.put_head.auto.out))
 
 pub returns : goal.returns
 returns c =

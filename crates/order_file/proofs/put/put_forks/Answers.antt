@@ -1,14 +1,17 @@
 -- `order_file::put::put_forks` meets its contract: the record's first bytes, then the string.
-use mathlib.Core.Path.{◌≡◌, ap, ap₂, ◌∙◌}
-use mathlib.Core.List.{List, ◌++◌}
-use Prim.Native.Nat.{ℕ, ◌+◌, ◌^◌, ◌≤◌}
+use mathlib.Core.Path.{◌≡◌, sym, ap, ap₂, ◌∙◌}
+use mathlib.Core.List.{List, ◌++◌, append_assoc}
+use Prim.Native.Nat.{ℕ, ◌+◌, ◌-◌, ◌^◌, ◌≤◌}
 use native.Mathlib.Omega.{arith}
-use lib.ListN.{length, take, length-append}
-use lib.Seq.{length-take-le}
+use lib.ListN.{length, take, drop, length-append, length-take, length-drop}
+use borrow.Rule.Slice.PartMut.{put_mid}
+use lib.Seq.{length-take-le, drop-drop}
+use Rattle.base.specs.Size.{max_k, stop_count}
 use Rattle.base.proofs.Size.{stop_count-pow, pow-le-1024}
 use Rattle.records.specs.Field.{bytes_of}
 use Rattle.records.specs.Put.{put}
-use Rattle.records.proofs.PutLaws.{put_two}
+use Rattle.records.specs.Record.{record_length}
+use Rattle.records.proofs.PutLaws.{put_two, put-fits}
 use Rattle.records.proofs.FieldLaws.{length-bytes_of}
 use Rattle.records.proofs.LengthLaws.{forks-length}
 use Rattle.orders.specs.Bits.{byte_count}
@@ -30,31 +33,48 @@ written k at m long bits out t u e f g fits room a b =
     ∙ ap₂ (λ (x : ℕ) (y : List ℕ). put out x y) e (record-parts 6 long (take m bits) (omega arith))
     ∙ ap (λ (x : ℕ). put out (forks_place (2 ^ k)) (forks_bytes (take x bits))) f
 
-pub overflow_add-record_length : goal.overflow_add-record_length
-overflow_add-record_length c =
-    let count : c.byte_count-count.result ≡ byte_count (2 ^ c.args.k) = c.byte_count-count.ensures ∙ byte_count-is _ c.requires.0 in
-    let few : byte_count (2 ^ c.args.k) ≤ 128 = (true-sizes _ c.requires.0).few in
-    record { fits = omega (arith, count, few, c.record_length.ensures, forks-length 5 0) }
+-- the string ends within the buffer
+fits-in : (k at n : ℕ) (out out' : List ℕ) → k ≤ max_k → at ≡ forks_place (stop_count k) → n ≡ byte_count (stop_count k) → end_place (2 ^ k) ≤ length out → length out' ≡ length out
+    → at + 4 + n ≤ length out'
+fits-in k at n out out' small e f room same = omega (arith, stop_count-pow k small, byte_count-is k small)
 
-pub overflow_cast-record_length : goal.overflow_cast-record_length
-overflow_cast-record_length c =
-    let count : c.byte_count-count.result ≡ byte_count (2 ^ c.args.k) = c.byte_count-count.ensures ∙ byte_count-is _ c.requires.0 in
-    let few : byte_count (2 ^ c.args.k) ≤ 128 = (true-sizes _ c.requires.0).few in
-    record { fits = omega (arith, count, few, c.record_length.ensures, forks-length 5 0) }
+-- the part that was copied to is put
+copied : (at n : ℕ) (out bits part : List ℕ) → at + n ≤ length out → n ≤ length bits → part ≡ take n bits → put_mid at (at + n - at) out part ≡ put out at (take n bits)
+copied at n out bits part fits long e =
+    let width : at + n - at ≡ n = omega arith in
+    let size : length (take n bits) ≡ n = length-take-le n bits long in
+    rw (width, e, drop-drop n at out)
+    (ap (λ (x : ℕ). take at out ++ (take n bits ++ drop (at + x) out)) (sym size)
+    ∙ sym (append_assoc (take at out) (take n bits) (drop (at + length (take n bits)) out))
+    ∙ sym (put-fits out at (take n bits) (rw size fits)))
 
-pub overflow_add-at : goal.overflow_add-at
-overflow_add-at c =
-    let place : c.forks_place-at.result ≡ forks_place (2 ^ c.args.k) = c.forks_place-at.ensures ∙ ap forks_place (stop_count-pow _ c.requires.0) in
-    record { fits = omega (arith, place, pow-le-1024 c.args.k c.requires.0) }
+pub overflow_add-string : goal.overflow_add-string
+overflow_add-string c = record { fits = omega (arith, c.forks_place-at.ensures, stop_count-pow _ c.requires.0, pow-le-1024 _ c.requires.0) }
 
-pub copy_bytes-requires : goal.copy_bytes-requires
-copy_bytes-requires c =
-    let count : c.byte_count-count.result ≡ byte_count (2 ^ c.args.k) = c.byte_count-count.ensures ∙ byte_count-is _ c.requires.0 in
-    let place : c.forks_place-at.result ≡ forks_place (2 ^ c.args.k) = c.forks_place-at.ensures ∙ ap forks_place (stop_count-pow _ c.requires.0) in
-    (omega (arith, count, c.requires.1), omega (arith, place, count, c.requires.2, c.put_pair.auto.s))
+pub overflow_add-string-2 : goal.overflow_add-string-2
+overflow_add-string-2 c = record { fits = omega (arith, c.forks_place-at.ensures, c.byte_count-count.ensures, stop_count-pow _ c.requires.0, pow-le-1024 _ c.requires.0) }
+
+pub slice_bounds-copy_from_slice-end : goal.slice_bounds-copy_from_slice-end
+slice_bounds-copy_from_slice-end c =
+    fits-in c.args.k _ _ _ _ c.requires.0 c.forks_place-at.ensures c.byte_count-count.ensures c.requires.2 c.put_record.auto.out
+
+pub slice_bounds-copy_from_slice-end-2 : goal.slice_bounds-copy_from_slice-end-2
+slice_bounds-copy_from_slice-end-2 c = sym (length-take-le _ c.args.bits.now (omega (arith, c.byte_count-count.ensures, byte_count-is _ c.requires.0, c.requires.1)))
+
+pub copy_from_slice-requires : goal.copy_from_slice-requires
+copy_from_slice-requires c =
+    let fits : c.forks_place-at.result + 4 + c.byte_count-count.result ≤ length c.put_record.new.out = fits-in c.args.k _ _ _ _ c.requires.0 c.forks_place-at.ensures c.byte_count-count.ensures c.requires.2 c.put_record.auto.out in
+    let long : c.byte_count-count.result ≤ length c.args.bits.now = omega (arith, c.byte_count-count.ensures, byte_count-is _ c.requires.0, c.requires.1) in
+    simp (length-take, length-drop) (omega arith)
+
+pub put_record-requires : goal.put_record-requires
+put_record-requires c = omega (arith, c.byte_count-count.ensures, byte_count-is _ c.requires.0, (true-sizes _ c.requires.0).few)
 
 pub returns : goal.returns
 returns c =
     let place : c.forks_place-at.result ≡ forks_place (2 ^ c.args.k) = c.forks_place-at.ensures ∙ ap forks_place (stop_count-pow _ c.requires.0) in
     let count : c.byte_count-count.result ≡ byte_count (2 ^ c.args.k) = c.byte_count-count.ensures ∙ byte_count-is _ c.requires.0 in
-    written _ _ _ _ c.args.bits.now c.args.out.now _ _ place count (omega (arith, c.record_length.ensures, forks-length 5 0)) (omega (arith, count, c.requires.1)) c.requires.2 c.put_pair.ensures c.copy_bytes.ensures
+    let long : record_length 6 5 0 + c.byte_count-count.result ≡ 2 + c.byte_count-count.result = omega (arith, forks-length 5 0) in
+    let fits : c.forks_place-at.result + 4 + c.byte_count-count.result ≤ length c.put_record.new.out = fits-in c.args.k _ _ _ _ c.requires.0 c.forks_place-at.ensures c.byte_count-count.ensures c.requires.2 c.put_record.auto.out in
+    written _ _ _ _ c.args.bits.now c.args.out.now _ _ place count long (omega (arith, count, c.requires.1)) c.requires.2 c.put_record.ensures
+    (copied (c.forks_place-at.result + 4) c.byte_count-count.result c.put_record.new.out c.args.bits.now c.copy_from_slice.new.self fits (omega (arith, count, c.requires.1)) c.copy_from_slice.ensures.after)

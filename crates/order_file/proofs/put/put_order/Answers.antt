@@ -1,9 +1,10 @@
 -- `order_file::put::put_order` meets its contract: the stops passed are put.
-use mathlib.Core.Path.{◌≡◌, refl, sym, ap, ◌∙◌}
+use mathlib.Core.Path.{◌≡◌, sym, ap, ◌∙◌}
 use mathlib.Core.List.{List}
 use Prim.Native.Nat.{ℕ, ◌+◌, ◌*◌, ◌<◌}
 use native.Mathlib.Omega.{arith}
 use lib.ListN.{length, get_or, take}
+use lib.Seq.{take_all}
 use Rattle.records.specs.Field.{bytes_of}
 use Rattle.records.specs.Put.{put}
 use Rattle.records.proofs.PutLaws.{put_two, put-none}
@@ -14,40 +15,18 @@ use Rattle.order_file.proofs.put.put_order.Goals as goal
 
 pub loop-p-init : goal.loop-p-init
 unfolding stop_bytes
-loop-p-init c = (omega arith, refl, sym (put-none c.args.out.now stops_place (omega (arith, c.requires.2))))
-
-pub overflow_mul-p : goal.overflow_mul-p
-overflow_mul-p c = record { fits = omega (arith, c.loop-p.invariant.0, c.requires.0) }
-
-pub overflow_add-p : goal.overflow_add-p
-overflow_add-p c = record { fits = omega (arith, c.loop-p.invariant.0, c.requires.0) }
-
-pub offset_bounds-order-p : goal.offset_bounds-order-p
-offset_bounds-order-p c = record { fits = omega (arith, c.loop-p.invariant.0, c.requires.0) }
-
-pub bounds-order-p : goal.bounds-order-p
-bounds-order-p c = omega (arith, c.requires.1)
-
-pub overflow_add-p-in-loop-p : goal.overflow_add-p-in-loop-p
-overflow_add-p-in-loop-p c = omega arith
-
-pub loop-p-smaller : goal.loop-p-smaller
-loop-p-smaller c = omega arith
+loop-p-init c = sym (put-none c.args.out.now stops_place (omega (arith, c.requires.1)))
 
 pub loop-p-preserved : goal.loop-p-preserved
 loop-p-preserved c =
     let l = c.loop-p in let p : ℕ = l.p in
     let order : List ℕ = c.args.order.now in
     let out : List ℕ = c.args.out.now in
-    let b : p < length order = omega (arith, c.requires.1) in
+    let b : p < length order = omega arith in
     let long : length (stop_bytes (take p order)) ≡ 2 * p = length-first order p (omega arith) in
     let two : length (bytes_of 2 (get_or order p 0)) ≡ 2 = length-bytes_of 2 _ in
-    (omega arith, c.put16.auto.s ∙ l.invariant.1, put_two out stops_place (stop_bytes (take p order)) (bytes_of 2 (get_or order p 0)) l.out _ (18 + 2 * p) (omega (arith, c.requires.2)) (omega arith) l.invariant.2 c.put16.ensures ∙ ap (put out stops_place) (stop-more order p b))
-
-pub shape_of-out : goal.shape_of-out
-shape_of-out c = c.loop-p.invariant.1
+    put_two out stops_place (stop_bytes (take p order)) (bytes_of 2 (get_or order p 0)) l.out _ (18 + 2 * p) (omega (arith, c.requires.1)) (omega arith) l.invariant c.put16.ensures ∙ ap (put out stops_place) (stop-more order p b)
 
 pub returns : goal.returns
 returns c =
-    let l = c.loop-p in let e : l.p ≡ c.args.n = omega arith in
-    l.invariant.2 ∙ ap (λ (x : ℕ). put c.args.out.now stops_place (stop_bytes (take x c.args.order.now))) e
+    c.loop-p.invariant ∙ ap (λ (x : List ℕ). put c.args.out.now stops_place (stop_bytes x)) (take_all _ c.args.order.now (omega arith))

@@ -4,7 +4,7 @@ use Prim.Native.Nat.{ℕ, ◌+◌, ◌*◌, ◌/◌, ◌<◌}
 use native.Mathlib.Nat.{div-div-eq-div-mul, div-le_self}
 use native.Mathlib.Omega.{arith}
 use Rattle.orders.specs.Bits.{raised}
-use Rattle.orders.proofs.Shift.{Known, known, fork-is, marked-exchanged, marked-kept}
+use Rattle.orders.proofs.Shift.{known, fork-is, marked-exchanged, marked-kept}
 use Rattle.orders.proofs.forks.mark_fork.Goals as goal
 
 -- it is below n

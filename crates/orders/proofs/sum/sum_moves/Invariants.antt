@@ -6,7 +6,4 @@ use Rattle.orders.proofs.sum.sum_moves.Given as goal
 
 abbrev pub invariant-loop-p : goal.invariant-loop-p
 invariant-loop-p l =
-    (l.p ≤ l.count - 1) × (l.sum ≤ l.p * 4294967296) × (l.sum ≡ moves (entry l.n l.table) (take l.n l.order) l.p)
-
-abbrev pub decreases-loop-p : goal.decreases-loop-p
-decreases-loop-p l = l.count - l.p
+    (l.p - 1 ≤ l.p-end - 1) × (l.sum ≤ (l.p - 1) * 4294967296) × (l.sum ≡ moves (entry l.n l.table) (take l.n l.order) (l.p - 1))

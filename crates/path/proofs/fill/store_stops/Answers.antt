@@ -14,8 +14,8 @@ loop-i-init c = (omega arith, refl, refl, refl, refl, refl, refl, refl, refl)
 
 pub loop-i-preserved : goal.loop-i-preserved
 loop-i-preserved c =
-    let a = c.args in let i = c.loop-i.i in let f : ℕ → Stop = λ (j : ℕ). stop_in a.version j a.bytes.now in
-    let from : c.stop_from.result ≡ f i = c.stop_from.ensures in
+    let a = c.args in let i = c.loop-i.i in let f : ℕ → Stop = λ (j : ℕ). stop_in a.path.version j a.path.bytes.now in
+    let from : c.stop.result ≡ f i = c.stop.ensures in
     let places = c.requires in let inv = c.loop-i.invariant in (
       omega arith,
       next-coords i f a.coords.now _ _ _ (omega (arith, places)) from inv.1 c.store_stop.ensures.coords_after,

@@ -1,5 +1,5 @@
 use mathlib.Core.Path.{◌≡◌}
-use Prim.Native.Nat.{◌-◌, ◌≤◌}
+use Prim.Native.Nat.{◌≤◌}
 use lib.ListN.{length}
 use Rattle.stop.specs.Lent.{coords_of, speeds_of, blends_of, dwells_of}
 use Rattle.base.specs.Outcome.{over}
@@ -8,9 +8,6 @@ use Rattle.path.proofs.fill.store_stops.Given as goal
 
 abbrev pub invariant-loop-i : goal.invariant-loop-i
 invariant-loop-i l =
-    (l.i ≤ l.count) × (l.coords ≡ over (coords_of (stops_in l.version l.i l.bytes)) l.initial.coords) × (l.speeds ≡ over (speeds_of (stops_in l.version l.i l.bytes)) l.initial.speeds)
-    × (l.blends ≡ over (blends_of (stops_in l.version l.i l.bytes)) l.initial.blends) × (l.dwells ≡ over (dwells_of (stops_in l.version l.i l.bytes)) l.initial.dwells)
+    (l.i ≤ l.count) × (l.coords ≡ over (coords_of (stops_in l.path.version l.i l.path.bytes.now)) l.initial.coords) × (l.speeds ≡ over (speeds_of (stops_in l.path.version l.i l.path.bytes.now)) l.initial.speeds)
+    × (l.blends ≡ over (blends_of (stops_in l.path.version l.i l.path.bytes.now)) l.initial.blends) × (l.dwells ≡ over (dwells_of (stops_in l.path.version l.i l.path.bytes.now)) l.initial.dwells)
     × (length l.coords ≡ length l.initial.coords) × (length l.speeds ≡ length l.initial.speeds) × (length l.blends ≡ length l.initial.blends) × (length l.dwells ≡ length l.initial.dwells)
-
-abbrev pub decreases-loop-i : goal.decreases-loop-i
-decreases-loop-i l = l.count - l.i

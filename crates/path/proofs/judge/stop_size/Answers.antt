@@ -6,7 +6,7 @@ use Rattle.path.proofs.PlaceLaws.{size-range, size-length}
 use Rattle.path.proofs.judge.stop_size.Goals as goal
 
 pub overflow_add-result : goal.overflow_add-result
-overflow_add-result c = omega (arith, size-range c.args.version, size-length c.args.version, c.record_length.ensures)
+overflow_add-result c = omega (arith, size-range c.args.version, size-length c.args.version, c.length.ensures)
 
 pub returns : goal.returns
-returns c = ap (λ (n : ℕ). 2 + n) c.record_length.ensures ∙ sym (size-length c.args.version)
+returns c = ap (λ (n : ℕ). 2 + n) c.length.ensures ∙ sym (size-length c.args.version)

@@ -1,17 +1,13 @@
 -- `path::put_head` meets its contract: the record's start, and its two fields.
-use mathlib.Core.Path.{sym}
 use native.Mathlib.Omega.{arith}
 use mathlib.Core.List.{◌++◌}
 use lib.ListN.{length-append}
 use Rattle.records.specs.Field.{bytes_of}
 use Rattle.records.proofs.FieldLaws.{length-bytes_of}
 use Rattle.records.specs.Record.{record_length}
-use Rattle.records.proofs.PutLaws.{put-short, put_two}
-use Rattle.path.proofs.WrittenLaws.{length-head_bytes, head-parts}
+use Rattle.records.proofs.PutLaws.{put_two}
+use Rattle.path.proofs.WrittenLaws.{head-parts}
 use Rattle.path.proofs.put.put_head.Goals as goal
-
-pub returns-then-out-lt8 : goal.returns-then-out-lt8
-returns-then-out-lt8 c = sym (put-short _ _ _ (rw length-head_bytes (omega arith)))
 
 pub returns : goal.returns
 returns c =

@@ -1,6 +1,11 @@
 -- `path::put::put_record` meets its contract: the record's start, the point and the pace side by side fill the part.
+use native.Mathlib.Omega.{arith}
+use Rattle.path.proofs.PlaceLaws.{size-range}
 use Rattle.path.proofs.WrittenLaws.{stop-put}
 use Rattle.path.proofs.put.put_record.Goals as goal
+
+pub put_point-requires : goal.put_point-requires
+put_point-requires c = omega (arith, (size-range c.args.version).0)
 
 pub returns : goal.returns
 returns c = stop-put _ _ _ _ _ _ c.requires c.put_start.ensures c.put_point.ensures c.put_pace.ensures

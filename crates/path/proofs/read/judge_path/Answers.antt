@@ -1,44 +1,45 @@
 -- `path::judge_path` meets its contract: the head, the places in the buffers, and the body settle the reading.
-use mathlib.Core.Path.{◌≡◌, sym, ap, ◌∙◌}
-use mathlib.Core.Bool.{Bool, true, false}
-use Prim.Native.Nat.{ℕ, ◌^◌}
-use Rattle.base.specs.Outcome.{gives, need}
+use Rattle.std.proofs.Common.{rules, ◌≡◌, Err, Result, sym, ap, ◌∙◌, ℕ, ◌^◌, Bool, true, false}
+use Rattle.base.specs.declared.Refusal.{Refusal}
+use Rattle.base.specs.Refusal.{refusal_number}
+use Rattle.base.specs.Outcome.{gives, need, said, giving}
 use Rattle.base.proofs.Size.{stop_count-pow}
-use Rattle.stop.specs.Lent.{LentStops, held_stops, stops_fit}
-use Rattle.path.specs.Reading.{stop_room}
-use Rattle.path.proofs.JudgeLaws.{head-facts, given-head, given-test, given-body, given-path}
+use Rattle.stop.specs.Lent.{LentStops, lent, stops_fit}
+use Rattle.path.specs.declared.PathBytes.{PathBytes}
+use Rattle.path.specs.Bytes.{heading_of}
+use Rattle.path.specs.Reading.{heading, stop_room}
+use Rattle.path.proofs.JudgeLaws.{head-facts, judged-head, judged-test, judged-body, judged-path}
 use Rattle.path.proofs.read.judge_path.Goals as goal
 
 -- what the test of places comes to
-room : (lent : LentStops) (k : ℕ) (b : Bool) → stops_fit (2 ^ k) lent ≡ b → stop_room lent k ≡ need b 8 (gives tt)
-room lent k b e = rw e
+room : (l : LentStops) (k n : ℕ) (b : Bool) → n ≡ 2 ^ k → b ≡ stops_fit n l → stop_room l k ≡ need b 8 (gives tt)
+room l k n b en eb = rw (← en, ← eb)
 
-pub returns-then-head-ne0 : goal.returns-then-head-ne0
-returns-then-head-ne0 c = given-head _ _ _ _ c.judge_head-head.ensures c.if-head-ne0.true
+pub returns-in_err-path-clause-path : goal.returns-in_err-path-clause-path
+returns-in_err-path-clause-path c =
+    let handed : c.from_residual.result ≡ Err c.in_err-path.field-0.0 = search rules in
+    ap (λ (r : Result PathBytes Refusal). giving heading_of (said r)) handed
+    ∙ sym (ap (giving heading) (judged-head _ _ (stop_room (lent c.args.stops)) (refusal_number c.in_err-path.field-0.0) c.in_err-path.ensures.head))
 
-pub returns-then-not-stops_fit : goal.returns-then-not-stops_fit
-returns-then-not-stops_fit c =
-    let lent : LentStops = let a = c.args in held_stops a.coords a.speeds a.blends a.dwells in
-    let places : c.stops_fit.result ≡ stops_fit (2 ^ c.judge_head-head.result.k) lent = let small = (head-facts _ _ (λ k. gives tt) c.judge_head-head.result c.judge_head-head.ensures c.if-head-ne0.false).2 in
-    c.stops_fit.ensures ∙ ap (λ (n : ℕ). stops_fit n lent) (c.stop_count.ensures ∙ stop_count-pow _ small) in
-    given-test _ _ _ c.judge_head-head.result c.judge_head-head.ensures c.if-head-ne0.false 8 _
-    (room lent _ false (sym places ∙ c.if-not-stops_fit.true))
-    c.no_head.ensures
+pub returns-then-not-fits-clause-path : goal.returns-then-not-fits-clause-path
+returns-then-not-fits-clause-path c =
+    let p = c.in_ok-path.path in let e = c.in_ok-path.ensures in let l = lent c.args.stops in
+    let count : c.stop_count.result ≡ 2 ^ p.k = c.stop_count.ensures ∙ stop_count-pow p.k (head-facts _ _ (stop_room l) p e.head e.same).small in
+    let short : c.fits.result ≡ false = c.if-not-fits.true in
+    sym (ap (giving heading) (judged-test _ _ (stop_room l) p e.head e.same 8 (room l p.k _ c.fits.result count c.fits.ensures ∙ rw short)))
 
-pub returns-then-refused-ne0 : goal.returns-then-refused-ne0
-returns-then-refused-ne0 c =
-    let lent : LentStops = let a = c.args in held_stops a.coords a.speeds a.blends a.dwells in
-    let places : c.stops_fit.result ≡ stops_fit (2 ^ c.judge_head-head.result.k) lent = let small = (head-facts _ _ (λ k. gives tt) c.judge_head-head.result c.judge_head-head.ensures c.if-head-ne0.false).2 in
-    c.stops_fit.ensures ∙ ap (λ (n : ℕ). stops_fit n lent) (c.stop_count.ensures ∙ stop_count-pow _ small) in
-    given-body _ _ _ c.judge_head-head.result c.judge_head-head.ensures c.if-head-ne0.false
-    (room lent _ true (sym places ∙ c.if-not-stops_fit.false))
-    c.judge_body-refused.result c.judge_body-refused.ensures _ c.if-refused-ne0.true c.no_head-then-refused-ne0.ensures
+pub returns-in_err-judge-clause-path : goal.returns-in_err-judge-clause-path
+returns-in_err-judge-clause-path c =
+    let p = c.in_ok-path.path in let e = c.in_ok-path.ensures in let l = lent c.args.stops in
+    let count : c.stop_count.result ≡ 2 ^ p.k = c.stop_count.ensures ∙ stop_count-pow p.k (head-facts _ _ (stop_room l) p e.head e.same).small in
+    let enough : c.fits.result ≡ true = c.if-not-fits.false in
+    let handed : c.from_residual-in_err-judge.result ≡ Err c.in_err-judge.field-0.0 = search rules in
+    ap (λ (r : Result PathBytes Refusal). giving heading_of (said r)) handed
+    ∙ sym (ap (giving heading) (judged-body _ _ (stop_room l) p e.head e.same (room l p.k _ c.fits.result count c.fits.ensures ∙ rw enough) (refusal_number c.in_err-judge.field-0.0) c.in_err-judge.ensures))
 
-pub returns : goal.returns
-returns c =
-    let lent : LentStops = let a = c.args in held_stops a.coords a.speeds a.blends a.dwells in
-    let places : c.stops_fit.result ≡ stops_fit (2 ^ c.judge_head-head.result.k) lent = let small = (head-facts _ _ (λ k. gives tt) c.judge_head-head.result c.judge_head-head.ensures c.if-head-ne0.false).2 in
-    c.stops_fit.ensures ∙ ap (λ (n : ℕ). stops_fit n lent) (c.stop_count.ensures ∙ stop_count-pow _ small) in
-    given-path _ _ _ c.judge_head-head.result c.judge_head-head.ensures c.if-head-ne0.false
-    (room lent _ true (sym places ∙ c.if-not-stops_fit.false))
-    c.judge_body-refused.result c.judge_body-refused.ensures c.if-refused-ne0.false
+pub returns-clause-path : goal.returns-clause-path
+returns-clause-path c =
+    let p = c.in_ok-path.path in let e = c.in_ok-path.ensures in let l = lent c.args.stops in
+    let count : c.stop_count.result ≡ 2 ^ p.k = c.stop_count.ensures ∙ stop_count-pow p.k (head-facts _ _ (stop_room l) p e.head e.same).small in
+    let enough : c.fits.result ≡ true = c.if-not-fits.false in
+    sym (ap (giving heading) (judged-path _ _ (stop_room l) p e.head e.same (room l p.k _ c.fits.result count c.fits.ensures ∙ rw enough) c.in_ok-judge.ensures).reads)

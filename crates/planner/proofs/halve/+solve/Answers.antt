@@ -1,10 +1,8 @@
 -- `planner::halve::solve` meets its contract, and ends: m falls at each call.
-use mathlib.Core.Path.{◌≡◌, sym, ap, ◌∙◌}
-use Prim.Native.Nat.{◌+◌, ◌<◌}
+use mathlib.Core.Path.{◌≡◌, refl, sym, ap, ◌∙◌}
+use Prim.Native.Nat.{◌+◌, ◌-◌, ◌<◌}
 use native.Mathlib.Omega.{arith}
 use Rattle.base.proofs.Size.{pow-le-1024}
-use Rattle.rows.specs.Pass.{AlignedBlock}
-use Rattle.rows.proofs.Table.{stops-of}
 use Rattle.rows.proofs.Blocks.{aligned-small, pow-half, first-half, second-half}
 use Rattle.planner.proofs.Sizes.{sizes-small, sizes-kept}
 use Rattle.planner.specs.Method.{solve_weighings}
@@ -14,75 +12,51 @@ use Rattle.planner.proofs.Weighings.{solve-few, solve-more, solve-one, solve-two
 use Rattle.planner.proofs.halve.+solve.Goals as goal
 
 pub returns-then-m-eq0 : goal.returns-then-m-eq0
-returns-then-m-eq0 t c = let q = c.requires in (solved-none _ c.if-m-eq0.true q.holds_stops, solve-one c.if-m-eq0.true)
-
-pub pair-requires : goal.pair-requires
-pair-requires t c =
-    let q = c.requires in
-    let one : AlignedBlock c.args.costs.n c.args.left 1 = rw c.if-m-eq1.true at q.aligned_block in
-    omega (arith, one.inside, q.lent_sizes.places)
-
-pub shape_of-order-then-m-eq1 : goal.shape_of-order-then-m-eq1
-shape_of-order-then-m-eq1 t c = c.pair.auto.order
+returns-then-m-eq0 g t c = let q = c.requires in (solved-none _ c.if-m-eq0.true q.holds_stops, solve-one c.if-m-eq0.true)
 
 pub returns-then-m-eq1 : goal.returns-then-m-eq1
-returns-then-m-eq1 t c =
+returns-then-m-eq1 g t c =
     let q = c.requires in
-    (solved-two _ (stops-of _ _) c.if-m-eq1.true q.aligned_block q.holds_stops q.last_reached q.lent_sizes.places c.pair.ensures, solve-two c.if-m-eq1.true)
+    (solved-two _ refl c.if-m-eq1.true q.aligned_block q.holds_stops q.last_reached q.lent_sizes.places c.pair.ensures, solve-two c.if-m-eq1.true)
 
-pub split-here-requires : goal.split-here-requires
-split-here-requires t c =
-    let q = c.requires in record { readable = q.readable; lent_sizes = q.lent_sizes; m_nonzero = (omega (arith, c.if-m-eq0.false), q.aligned_block); holds_stops = q.holds_stops; last_reached = q.last_reached }
-
-pub overflow_sub-m : goal.overflow_sub-m
-overflow_sub-m t c = omega (arith, c.if-m-eq0.false)
-
-pub two_to-half-requires : goal.two_to-half-requires
-two_to-half-requires t c = let q = c.requires in omega (arith, aligned-small q.aligned_block (sizes-small q.lent_sizes))
-
-pub overflow_sub-m-2 : goal.overflow_sub-m-2
-overflow_sub-m-2 t c =
-    let large : 1 < c.args.m = omega (arith, c.if-m-eq1.false, c.if-m-eq0.false) in
-    omega (arith, large)
+pub pow-half-requires : goal.pow-half-requires
+pow-half-requires g t c = let q = c.requires in omega (arith, pow-le-1024 (c.args.m - 1) (omega (arith, aligned-small q.aligned_block (sizes-small q.lent_sizes))))
 
 pub solve-first-requires : goal.solve-first-requires
-solve-first-requires t c =
+solve-first-requires g t c =
     let q = c.requires in
     let large : 1 < c.args.m = omega (arith, c.if-m-eq1.false, c.if-m-eq0.false) in
     let some : 0 < c.args.m = omega arith in
     let p = c.split-here in
-    let fixed = p.ensures.0 in (
+    let fixed = p.ensures.0 in
+    λ κs sub. (
       omega arith,
-      (q.readable, (sizes-kept q.lent_sizes p.auto.order p.auto.totals p.auto.pivots, (first-half q.aligned_block some, (halved-stops _ _ (stops-of _ _) _ _ _ q.aligned_block some q.lent_sizes.places _ fixed q.holds_stops q.last_reached, first_found _ _ (stops-of _ _) _ _ _ q.aligned_block some q.lent_sizes.places _ fixed q.last_reached)))),
+      (sub, (sizes-kept q.lent_sizes p.auto.order p.auto.totals p.auto.pivots, (first-half q.aligned_block some, (halved-stops _ _ refl _ _ _ q.aligned_block some q.lent_sizes.places _ fixed q.holds_stops q.last_reached, first_found _ _ refl _ _ _ q.aligned_block some q.lent_sizes.places _ fixed q.last_reached)))),
     )
 
 -- the second half begins within the places
 pub overflow_add-left : goal.overflow_add-left
-overflow_add-left t c =
+overflow_add-left g t c =
     let large : 1 < c.args.m = omega (arith, c.if-m-eq1.false, c.if-m-eq0.false) in
     let q = c.requires in
-    omega (arith, c.two_to-half.ensures, q.aligned_block.inside, pow-half c.args.m (omega (arith, large)), sizes-small q.lent_sizes)
-
-pub overflow_sub-m-3 : goal.overflow_sub-m-3
-overflow_sub-m-3 t c =
-    let large : 1 < c.args.m = omega (arith, c.if-m-eq1.false, c.if-m-eq0.false) in
-    omega (arith, large)
+    omega (arith, c.pow-half.ensures, q.aligned_block.inside, pow-half c.args.m (omega (arith, large)), sizes-small q.lent_sizes)
 
 pub solve-second-requires : goal.solve-second-requires
-solve-second-requires t c =
+solve-second-requires g t c =
     let large : 1 < c.args.m = omega (arith, c.if-m-eq1.false, c.if-m-eq0.false) in
     let q = c.requires in
     let more = large in
     let some : 0 < c.args.m = omega arith in
     let p = c.split-here in
     let r = c.solve-first in
-    let e = ap (λ x. c.args.left + x) (sym c.two_to-half.ensures) in (
+    let e = ap (λ x. c.args.left + x) (sym c.pow-half.ensures) in
+    λ κs sub. (
       omega arith,
-      (q.readable, (sizes-kept q.lent_sizes (r.auto.order ∙ p.auto.order) (r.auto.totals ∙ p.auto.totals) (r.auto.pivots ∙ p.auto.pivots), (aligned_at e (second-half q.aligned_block some), (r.ensures.0.stops, reached-at e (second-found _ _ (stops-of _ _) _ _ _ q.aligned_block some q.lent_sizes.places _ p.ensures.0 _ q.last_reached r.ensures.0))))),
+      (sub, (sizes-kept q.lent_sizes (r.auto.order ∙ p.auto.order) (r.auto.totals ∙ p.auto.totals) (r.auto.pivots ∙ p.auto.pivots), (aligned_at e (second-half q.aligned_block some), (r.ensures.0.stops, reached-at e (second-found _ _ refl _ _ _ q.aligned_block some q.lent_sizes.places _ p.ensures.0 _ q.last_reached r.ensures.0))))),
     )
 
 pub overflow_add-result : goal.overflow_add-result
-overflow_add-result t c =
+overflow_add-result g t c =
     let large : 1 < c.args.m = omega (arith, c.if-m-eq1.false, c.if-m-eq0.false) in
     let weighed : let m = c.args.m in
     (c.split-here.result + c.solve-first.result + c.solve-second.result ≡ solve_weighings m) × (solve_weighings m < 1099511627776) = let m = c.args.m in
@@ -94,7 +68,7 @@ overflow_add-result t c =
     omega (arith, weighed)
 
 pub overflow_add-result-2 : goal.overflow_add-result-2
-overflow_add-result-2 t c =
+overflow_add-result-2 g t c =
     let large : 1 < c.args.m = omega (arith, c.if-m-eq1.false, c.if-m-eq0.false) in
     let weighed : let m = c.args.m in
     (c.split-here.result + c.solve-first.result + c.solve-second.result ≡ solve_weighings m) × (solve_weighings m < 1099511627776) = let m = c.args.m in
@@ -105,17 +79,8 @@ overflow_add-result-2 t c =
     ) in
     omega (arith, weighed)
 
-pub shape_of-order : goal.shape_of-order
-shape_of-order t c = c.solve-second.auto.order ∙ c.solve-first.auto.order ∙ c.split-here.auto.order
-
-pub shape_of-totals : goal.shape_of-totals
-shape_of-totals t c = c.solve-second.auto.totals ∙ c.solve-first.auto.totals ∙ c.split-here.auto.totals
-
-pub shape_of-pivots : goal.shape_of-pivots
-shape_of-pivots t c = c.solve-second.auto.pivots ∙ c.solve-first.auto.pivots ∙ c.split-here.auto.pivots
-
 pub returns : goal.returns
-returns t c =
+returns g t c =
     let large : 1 < c.args.m = omega (arith, c.if-m-eq1.false, c.if-m-eq0.false) in
     let weighed : let m = c.args.m in
     (c.split-here.result + c.solve-first.result + c.solve-second.result ≡ solve_weighings m) × (solve_weighings m < 1099511627776) = let m = c.args.m in
@@ -125,6 +90,6 @@ returns t c =
       omega (arith, solve-few m few, pow-le-1024 m few),
     ) in
     let q = c.requires in (
-      solved-join _ _ (stops-of _ _) _ _ _ q.aligned_block (omega (arith, large)) q.lent_sizes.places _ c.split-here.ensures.0 _ _ c.solve-first.ensures.0 (solved-at (ap (λ x. c.args.left + x) c.two_to-half.ensures) c.solve-second.ensures.0),
+      solved-join _ _ refl _ _ _ q.aligned_block (omega (arith, large)) q.lent_sizes.places _ c.split-here.ensures.0 _ _ c.solve-first.ensures.0 (solved-at (ap (λ x. c.args.left + x) c.pow-half.ensures) c.solve-second.ensures.0),
       weighed.0,
     )

@@ -1,4 +1,4 @@
 use Rattle.planner.proofs.halve.+solve.Given as goal
 
 abbrev pub decreases-solve : goal.decreases-solve
-decreases-solve l = l.m
+decreases-solve g l = l.m

@@ -11,21 +11,6 @@ pub loop-i-init : goal.loop-i-init
 unfolding least_of
 loop-i-init c = (omega arith, refl)
 
-pub overflow_add-n : goal.overflow_add-n
-overflow_add-n c = omega arith
-
-pub offset_bounds-totals-n : goal.offset_bounds-totals-n
-offset_bounds-totals-n c = omega arith
-
-pub bounds-totals-n : goal.bounds-totals-n
-bounds-totals-n c = omega arith
-
-pub overflow_step-i : goal.overflow_step-i
-overflow_step-i c = omega arith
-
-pub loop-i-smaller : goal.loop-i-smaller
-loop-i-smaller c = omega arith
-
 pub loop-i-preserved : goal.loop-i-preserved
 loop-i-preserved c =
     let a = c.args in

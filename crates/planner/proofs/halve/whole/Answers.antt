@@ -1,10 +1,9 @@
 -- `planner::halve::whole` meets its contract.
-use mathlib.Core.Path.{◌≡◌, sym, ap, ◌∙◌}
+use mathlib.Core.Path.{◌≡◌, refl, sym, ap, ◌∙◌}
 use Prim.Native.Nat.{◌+◌, ◌-◌, ◌^◌, ◌<◌}
 use native.Mathlib.Nat.{zero-add}
 use native.Mathlib.Omega.{arith}
 use Rattle.base.proofs.Size.{pow-le-1024}
-use Rattle.rows.proofs.Table.{stops-of}
 use Rattle.rows.proofs.Blocks.{aligned-small, first-half, second-half}
 use Rattle.planner.specs.Method.{plan_weighings}
 use Rattle.planner.proofs.Sizes.{sizes-small, sizes-pos, sizes-kept}
@@ -14,64 +13,42 @@ use Rattle.planner.proofs.Ends.{first-ready, second-ready, finished, one-stop}
 use Rattle.planner.proofs.Weighings.{pass-few, solve-few, plan-more, plan-one}
 use Rattle.planner.proofs.halve.whole.Goals as goal
 
-pub bounds-order-0 : goal.bounds-order-0
-bounds-order-0 c = let z = c.requires.lent_sizes in omega (arith, sizes-pos z, z.places)
-
 pub returns-then-k-eq0 : goal.returns-then-k-eq0
-returns-then-k-eq0 c =
+returns-then-k-eq0 g c =
     let q = c.requires in
     let one = q.n_value.0 ∙ ap (λ x. 2 ^ x) c.if-k-eq0.true in
-    (one-stop _ (stops-of _ _) one q.n_value.1 (set-only c.args.order.now (q.lent_sizes.places ∙ one)) (c.start_cost.ensures.told q.readable (sizes-pos q.lent_sizes)), plan-one c.if-k-eq0.true)
+    (one-stop _ refl one q.n_value.1 (set-only c.args.order.now (q.lent_sizes.places ∙ one)) (c.start_cost.ensures.told (sizes-pos q.lent_sizes)), plan-one c.if-k-eq0.true)
 
-pub last_place-ends-requires : goal.last_place-ends-requires
-last_place-ends-requires c =
-    let q = c.requires in record { readable = q.readable; lent_sizes = q.lent_sizes; k_nonzero = (omega (arith, c.if-k-eq0.false), q.n_value.0, q.n_value.1) }
-
-pub overflow_sub-k : goal.overflow_sub-k
-overflow_sub-k c = omega (arith, c.if-k-eq0.false)
-
-pub two_to-half-requires : goal.two_to-half-requires
-two_to-half-requires c = let q = c.requires in omega (arith, aligned-small (whole-block q.n_value.0) (sizes-small q.lent_sizes))
-
-pub overflow_sub-k-2 : goal.overflow_sub-k-2
-overflow_sub-k-2 c =
-    let some : 0 < c.args.k = omega (arith, c.if-k-eq0.false) in
-    omega (arith, some)
+pub pow-half-requires : goal.pow-half-requires
+pow-half-requires g c = let q = c.requires in omega (arith, pow-le-1024 (c.args.k - 1) (omega (arith, aligned-small (whole-block q.n_value.0) (sizes-small q.lent_sizes))))
 
 pub solve-first-requires : goal.solve-first-requires
-solve-first-requires c =
+solve-first-requires g c =
     let some : 0 < c.args.k = omega (arith, c.if-k-eq0.false) in
     let q = c.requires in
     let p = c.last_place-ends in
-    let r = first-ready _ _ _ (stops-of _ _) q.n_value.0 some _ _ p.ensures.0 in record {
-      readable = q.readable;
+    let r = first-ready _ _ _ refl q.n_value.0 some _ _ p.ensures.0 in record {
       lent_sizes = sizes-kept q.lent_sizes p.auto.order p.auto.totals p.auto.pivots;
       aligned_block = first-half (whole-block q.n_value.0) some;
       holds_stops = r.0;
       last_reached = r.1;
     }
 
-pub overflow_sub-k-3 : goal.overflow_sub-k-3
-overflow_sub-k-3 c =
-    let some : 0 < c.args.k = omega (arith, c.if-k-eq0.false) in
-    omega (arith, some)
-
 pub solve-second-requires : goal.solve-second-requires
-solve-second-requires c =
+solve-second-requires g c =
     let some : 0 < c.args.k = omega (arith, c.if-k-eq0.false) in
     let q = c.requires in
     let p = c.last_place-ends in
     let r = c.solve-first in
-    let e = sym c.two_to-half.ensures in record {
-      readable = q.readable;
+    let e = sym c.pow-half.ensures in record {
       lent_sizes = sizes-kept q.lent_sizes (r.auto.order ∙ p.auto.order) (r.auto.totals ∙ p.auto.totals) (r.auto.pivots ∙ p.auto.pivots);
       aligned_block = aligned_at (zero-add _ ∙ e) (second-half (whole-block q.n_value.0) some);
       holds_stops = r.ensures.0.stops;
-      last_reached = reached-at e (second-ready _ _ _ (stops-of _ _) q.n_value.0 some _ _ p.ensures.0 _ r.ensures.0);
+      last_reached = reached-at e (second-ready _ _ _ refl q.n_value.0 some _ _ p.ensures.0 _ r.ensures.0);
     }
 
 pub overflow_add-result : goal.overflow_add-result
-overflow_add-result c =
+overflow_add-result g c =
     let some : 0 < c.args.k = omega (arith, c.if-k-eq0.false) in
     let weighed : let k = c.args.k in
     (c.last_place-ends.result.weighings + c.solve-first.result + c.solve-second.result ≡ plan_weighings k) × (plan_weighings k < 4398046511104) = let k = c.args.k in
@@ -84,7 +61,7 @@ overflow_add-result c =
     omega (arith, weighed)
 
 pub overflow_add-result-2 : goal.overflow_add-result-2
-overflow_add-result-2 c =
+overflow_add-result-2 g c =
     let some : 0 < c.args.k = omega (arith, c.if-k-eq0.false) in
     let weighed : let k = c.args.k in
     (c.last_place-ends.result.weighings + c.solve-first.result + c.solve-second.result ≡ plan_weighings k) × (plan_weighings k < 4398046511104) = let k = c.args.k in
@@ -97,7 +74,7 @@ overflow_add-result-2 c =
     omega (arith, weighed)
 
 pub returns : goal.returns
-returns c =
+returns g c =
     let some : 0 < c.args.k = omega (arith, c.if-k-eq0.false) in
     let weighed : let k = c.args.k in
     (c.last_place-ends.result.weighings + c.solve-first.result + c.solve-second.result ≡ plan_weighings k) × (plan_weighings k < 4398046511104) = let k = c.args.k in
@@ -112,4 +89,4 @@ returns c =
     let r = c.solve-first in
     let s = c.solve-second in
     let long = s.auto.order ∙ r.auto.order ∙ p.auto.order ∙ q.lent_sizes.places in
-    (finished _ _ _ (stops-of _ _) q.n_value.0 some _ _ p.ensures.0 _ _ long r.ensures.0 (solved-at c.two_to-half.ensures s.ensures.0), weighed.0)
+    (finished _ _ _ refl q.n_value.0 some _ _ p.ensures.0 _ _ long r.ensures.0 (solved-at c.pow-half.ensures s.ensures.0), weighed.0)

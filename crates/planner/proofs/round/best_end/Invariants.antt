@@ -1,5 +1,5 @@
 use mathlib.Core.Path.{◌≡◌}
-use Prim.Native.Nat.{◌+◌, ◌-◌, ◌≤◌}
+use Prim.Native.Nat.{◌+◌, ◌≤◌}
 use lib.ListN.{length}
 use Rattle.planner.specs.Tour.{EndHeld}
 use Rattle.planner.proofs.round.best_end.Given as goal
@@ -7,6 +7,3 @@ use Rattle.planner.proofs.round.best_end.Given as goal
 abbrev pub invariant-loop-last : goal.invariant-loop-last
 invariant-loop-last l =
     (l.last ≤ l.n) × (length l.totals ≡ l.n + l.n) × (length l.pivots ≡ l.n + l.n) × EndHeld l.n l.k l.table l.last l.held
-
-abbrev pub decreases-loop-last : goal.decreases-loop-last
-decreases-loop-last l = l.n - l.last

@@ -1,40 +1,40 @@
--- `reader::draw_number` meets its contract: before turn i the step is draw i; an answer that is no stop is every later one.
-use mathlib.Core.Path.{◌≡◌, sym, ap, ◌∙◌}
-use mathlib.Core.List.{List}
-use Prim.Native.Nat.{ℕ, ◌+◌, ◌-◌, ◌≤◌}
-use native.Mathlib.Numerals.{add-one}
-use native.Mathlib.Omega.{arith}
-use Rattle.path.specs.Draw.{draw_at}
-use Rattle.reader.specs.declared.Step.{Step}
-use Rattle.reader.specs.Draws.{draw_answer, step_at, steps_from}
-use Rattle.reader.proofs.DrawsLaws.{draws-are, draws-repeat, steps-zero, steps-suc}
+-- `reader::draw_number` meets its contract: before turn i the reader made i draws, each a stop; an answer that is no stop is every later one.
+use Rattle.std.proofs.Common.{rules, ◌≡◌, Err, Ok, Option, Some, None, refl, sym, ap, ◌∙◌, arith}
+use mathlib.Core.Bool.{true≢false}
+use Rattle.std.specs.Prelude.{is_some, not, false}
+use Rattle.stop.specs.declared.Stop.{Stop}
+use Rattle.path.specs.Draw.{ended}
+use Rattle.reader.specs.Draws.{answered, is_stop, after_draws}
+use Rattle.reader.proofs.ReaderLaws.{draw-here, draw-stays, draw-more}
 use Rattle.reader.proofs.draws.draw_number.Goals as goal
 
--- ---- a step s that is draw i
-module _ (bytes : List ℕ) (highest i : ℕ) (s : Step) (here : s ≡ steps_from bytes 0 highest i) where
-  -- where it is no stop, every later draw has its answer
-  stays : (d : ℕ) → i ≤ d → (s.drawn.verdict ≡ 0 → ⊥) → s.drawn ≡ draw_answer (draw_at bytes highest d)
-  stays d h f =
-      let on : i + (d - i) ≡ d = omega arith in
-      let same : steps_from bytes 0 highest (i + (d - i)) ≡ steps_from bytes 0 highest i = draws-repeat bytes 0 highest i (λ z. f (ap (λ (s : Step). s.drawn.verdict) here ∙ z)) (d - i) in
-      ap (λ (s : Step). s.drawn) (here ∙ sym same) ∙ rw on (draws-are bytes highest d)
-
-  -- the last one asked for
-  last : (d : ℕ) → i ≡ d → s.drawn ≡ draw_answer (draw_at bytes highest d)
-  last d e = ap (λ (s : Step). s.drawn) here ∙ rw e (draws-are bytes highest d)
-
-  -- and the step after it
-  more : (t : Step) → t ≡ step_at bytes s.at s.version → t ≡ steps_from bytes 0 highest (i + 1)
-  more t e = rw (add-one i) (e ∙ ap (λ (s : Step). step_at bytes s.at s.version) here ∙ sym (steps-suc bytes 0 highest i))
+-- an answer that holds no stop is the end
+none-ends : (o : Option Stop) → is_some o ≡ false → answered (Ok o) ≡ ended
+none-ends None e = refl
+none-ends (Some s) e = absurd (true≢false e)
 
 pub loop-i-init : goal.loop-i-init
-loop-i-init c = (omega arith, c.draw_at-step.ensures ∙ sym (steps-zero c.args.bytes.now 0 c.args.highest))
+unfolding after_draws
+loop-i-init c = (omega arith, refl)
 
-pub returns-then-drawn-ne-A_STOP : goal.returns-then-drawn-ne-A_STOP
-returns-then-drawn-ne-A_STOP c = stays _ _ _ _ c.loop-i.invariant.1 _ c.loop-i.invariant.0 c.if-drawn-ne-A_STOP.true
+pub returns-in_err-draw : goal.returns-in_err-draw
+returns-in_err-draw c =
+    let handed : c.from_residual.result ≡ Err c.in_err-draw.field-0.0 = search rules in
+    ap answered handed
+    ∙ c.in_err-draw.ensures.0
+    ∙ draw-stays c.args.bytes c.args.highest c.loop-i._i _ c.loop-i.reader c.open-reader.ensures c.loop-i.invariant.1 c.args.d c.loop-i.invariant.0 (ap is_stop (sym c.in_err-draw.ensures.0))
+
+pub returns-then-is_none : goal.returns-then-is_none
+returns-then-is_none c =
+    let over : answered (Ok c.in_ok-draw.field-0) ≡ ended = none-ends c.in_ok-draw.field-0 (c.is_none.ensures ∙ ap not c.if-is_none.true) in
+    sym over
+    ∙ c.in_ok-draw.ensures.0
+    ∙ draw-stays c.args.bytes c.args.highest c.loop-i._i _ c.loop-i.reader c.open-reader.ensures c.loop-i.invariant.1 c.args.d c.loop-i.invariant.0 (ap is_stop (sym c.in_ok-draw.ensures.0 ∙ over))
 
 pub loop-i-preserved : goal.loop-i-preserved
-loop-i-preserved c = (omega arith, more _ _ _ _ c.loop-i.invariant.1 _ c.draw_at-step-in-loop-i.ensures)
+loop-i-preserved c =
+    (omega arith, draw-more c.args.bytes c.args.highest c.loop-i._i _ c.loop-i.reader c.open-reader.ensures c.loop-i.invariant.1 _ c.draw.ensures.1)
 
 pub returns : goal.returns
-returns c = last _ _ _ _ c.loop-i.invariant.1 _ (omega arith)
+returns c =
+    c.draw-2.ensures.0 ∙ draw-here c.args.bytes c.args.highest c.loop-i._i _ c.loop-i.reader c.open-reader.ensures c.loop-i.invariant.1 c.args.d (omega arith)

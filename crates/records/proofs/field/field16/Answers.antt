@@ -1,10 +1,8 @@
--- `records::field16` meets its contract: the first 2 of the bytes from `at` on.
-use mathlib.Core.Path.{ap, ◌∙◌}
-use Prim.Native.Nat.{ℕ}
-use lib.ListN.{take}
-use mathlib.Core.List.{List}
-use Rattle.records.specs.Field.{number_of}
+-- `records::field16` meets its contract: the number that two bytes spell.
+use Rattle.std.proofs.Common.{◌∙◌}
+use lib.ListN.{drop}
+use Rattle.records.proofs.ByteLaws.{number-sum}
 use Rattle.records.proofs.field.field16.Goals as goal
 
 pub returns : goal.returns
-returns c = c.first16.ensures.0 ∙ ap (λ (t : List ℕ). number_of (take 2 t)) c.after.ensures
+returns c = c.from_le_bytes.ensures ∙ rw c.field.ensures (number-sum (drop c.args.at c.args.s.now) 1)

@@ -1,19 +1,11 @@
--- `records::to_signed` meets its contract: inverting all bits of 2^32 - 1 - u gives u less 2^32.
-use mathlib.Core.Path.{◌≡◌, ap}
-use Prim.Native.Nat.{ℕ, ◌-◌}
+-- `records::to_signed` meets its contract: the library's cast is that of two's complement.
+use mathlib.Core.Path.{◌∙◌}
 use native.Mathlib.Omega.{arith}
-use lib.IntN.{negsuc}
-use borrow.Author.Tests.{lt-ltb, le-ltb}
-use Rattle.records.specs.Field.{signed}
+use mir.Syntax.{w32}
+use mir.ValLaws.{to_z-of_z}
+use Rattle.records.proofs.ByteLaws.{cast_signed_is}
 use Rattle.records.proofs.field.to_signed.Goals as goal
 
-pub returns-then-u-lt2147483648 : goal.returns-then-u-lt2147483648
-unfolding signed
-returns-then-u-lt2147483648 c = simp (lt-ltb _ _ c.if-u-lt2147483648.true)
-
-pub returns-else-u-lt2147483648 : goal.returns-else-u-lt2147483648
-unfolding signed
-returns-else-u-lt2147483648 c =
-    let u : ℕ = c.args.u in
-    let back : 4294967295 - (4294967295 - u) ≡ u = omega arith in
-    simp (back, le-ltb _ _ c.if-u-lt2147483648.false) (ap negsuc (omega arith))
+pub returns : goal.returns
+returns c =
+    to_z-of_z w32 c.cast_signed.result (record { sfits = omega arith }) ∙ c.cast_signed.ensures ∙ cast_signed_is c.args.u

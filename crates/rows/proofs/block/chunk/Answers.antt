@@ -16,18 +16,17 @@ count : (p : ℕ) → 0 < p → p < 1024 → count_trailing_zeros 64 p ≡ trail
 count p a b = trail-count 64 p a (omega arith)
 
 pub next_row-first-requires : goal.next_row-first-requires
-next_row-first-requires c =
+next_row-first-requires g c =
     let a = c.args in
     let q = c.requires in
     let n = q.place_nonzero in
-    let e : count_trailing_zeros 64 a.place ≡ trail a.place = count a.place n.0 (omega (arith, n.2, q.readable.small)) in record {
-      readable = q.readable;
+    let e : count_trailing_zeros 64 a.place ≡ trail a.place = count a.place n.0 (omega (arith, n.2, g.met.C.Costs.small c.args.costs)) in record {
       two_rows = q.two_rows;
       place_lt_n = (
         omega (arith, n.2),
         e,
         omega (arith, e, trail-four a.place n.1 n.0),
-        omega (arith, e, trail-lt 10 a.place n.0 (omega (arith, n.2, q.readable.small))),
+        omega (arith, e, trail-lt 10 a.place n.0 (omega (arith, n.2, g.met.C.Costs.small c.args.costs))),
         n.3,
         n.4,
         n.5,
@@ -36,28 +35,25 @@ next_row-first-requires c =
       some_row = q.some_row;
     }
 
-pub overflow_add-place : goal.overflow_add-place
-overflow_add-place c = omega (arith, c.requires)
-
 pub leaves-rest-requires : goal.leaves-rest-requires
-leaves-rest-requires c =
+leaves-rest-requires g c =
     let q = c.requires in
     let n = q.place_nonzero in record {
-      readable = q.readable;
       two_rows = two-rows q.two_rows c.next_row-first.auto.totals c.next_row-first.auto.pivots;
       place_value = (omega (arith, n.1), omega (arith, n.2), n.3, n.4, n.5);
       some_row = made_row q.some_row c.next_row-first.ensures;
     }
 
 pub overflow_add-result : goal.overflow_add-result
-overflow_add-result c =
+overflow_add-result g c =
     let a = c.args in
     let q = c.requires in
     let n = q.place_nonzero in
-    omega (arith, c.next_row-first.ensures.counted, c.leaves-rest.ensures.counted, q, row-few a.size a.place _ (omega (arith, q)) n.0 (omega (arith, q)) (count a.place n.0 (omega (arith, n.2, q.readable.small))))
+    let small = g.met.C.Costs.small a.costs in
+    omega (arith, c.next_row-first.ensures.counted, c.leaves-rest.ensures.counted, q, row-few a.size a.place _ (omega (arith, q)) n.0 (omega (arith, q)) (count a.place n.0 (omega (arith, n.2, g.met.C.Costs.small c.args.costs))))
 
 pub returns : goal.returns
-returns c =
+returns g c =
     let q = c.requires in
     let n = q.place_nonzero in
-    chunk-made _ _ n.1 (count _ n.0 (omega (arith, n.2, q.readable.small))) n.5 c.next_row-first.ensures c.leaves-rest.ensures
+    chunk-made _ _ n.1 (count _ n.0 (omega (arith, n.2, g.met.C.Costs.small c.args.costs))) n.5 c.next_row-first.ensures c.leaves-rest.ensures

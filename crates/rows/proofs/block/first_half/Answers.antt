@@ -6,33 +6,19 @@ use Rattle.rows.proofs.Along.{weighings-few}
 use Rattle.rows.proofs.Passes.{made_row, half-made, some_at}
 use Rattle.rows.proofs.block.first_half.Goals as goal
 
-pub overflow_mul-size : goal.overflow_mul-size
-overflow_mul-size c = omega (arith, c.requires)
-
-pub overflow_add-left : goal.overflow_add-left
-overflow_add-left c = omega (arith, c.requires)
-
 pub leaves-first-requires : goal.leaves-first-requires
-leaves-first-requires c =
+leaves-first-requires g c =
     let q = c.requires in
     let n = q.le_half in record {
-      readable = q.readable;
       two_rows = q.two_rows;
       place_value = (omega (arith, n.2), omega (arith, n.0, n.4), n.3, omega (arith, n.1), n.5);
       some_row = q.some_row;
     }
 
-pub overflow_add-left-2 : goal.overflow_add-left-2
-overflow_add-left-2 c = omega (arith, c.requires)
-
-pub overflow_add-left-3 : goal.overflow_add-left-3
-overflow_add-left-3 c = omega (arith, c.requires)
-
 pub chunks-rest-requires : goal.chunks-rest-requires
-chunks-rest-requires c =
+chunks-rest-requires g c =
     let q = c.requires in
     let n = q.le_half in record {
-      readable = q.readable;
       two_rows = two-rows q.two_rows c.leaves-first.auto.totals c.leaves-first.auto.pivots;
       from_nonzero = (omega arith, omega (arith, n.0), omega (arith, n.4), omega (arith, n.2), omega (arith, n.1, n.2), n.3, omega (arith, n.1), n.5);
       by_index = λ p x y. q.by_index p (omega arith) (omega arith);
@@ -40,7 +26,7 @@ chunks-rest-requires c =
     }
 
 pub overflow_add-result : goal.overflow_add-result
-overflow_add-result c =
+overflow_add-result g c =
     let a = c.args in
     let q = c.requires in
     let n = q.le_half in
@@ -48,13 +34,13 @@ overflow_add-result c =
       arith,
       c.leaves-first.ensures.counted,
       c.chunks-rest.ensures.counted,
-      q.readable.small,
+      g.met.C.Costs.small c.args.costs,
       n.5,
       n.4,
-      weighings-few (2 * a.half) (a.left + 4) (a.left + a.half - (a.left + 4)) (omega (arith, n.5, q.readable.small)) (omega arith) (omega (arith, n.0, n.4, q.readable.small)),
+      weighings-few (2 * a.half) (a.left + 4) (a.left + a.half - (a.left + 4)) (omega (arith, n.5, g.met.C.Costs.small c.args.costs)) (omega arith) (omega (arith, n.0, n.4, g.met.C.Costs.small c.args.costs)),
     )
 
 pub returns : goal.returns
-returns c =
+returns g c =
     let n = c.requires.le_half in
     half-made _ _ _ n.2 n.0 n.5 c.leaves-first.ensures c.chunks-rest.ensures

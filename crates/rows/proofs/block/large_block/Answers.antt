@@ -9,47 +9,25 @@ use Rattle.rows.proofs.Passes.{made-rows, block_made, some_size}
 use Rattle.rows.proofs.block.large_block.Goals as goal
 
 pub two_to-half-requires : goal.two_to-half-requires
-two_to-half-requires c = let q = c.requires in omega (arith, aligned-small q.lt_m.1 q.readable.small)
-
-pub overflow_mul-end : goal.overflow_mul-end
-overflow_mul-end c =
-    let sizes : let a = c.args in Large a.costs.n a.left a.base a.m c.two_to-half.result = let n = c.requires.lt_m in large n.0 n.1 n.2 c.two_to-half.ensures in
-    let z = sizes in omega (arith, z.end, c.requires.readable.small)
-
-pub overflow_add-end : goal.overflow_add-end
-overflow_add-end c =
-    let sizes : let a = c.args in Large a.costs.n a.left a.base a.m c.two_to-half.result = let n = c.requires.lt_m in large n.0 n.1 n.2 c.two_to-half.ensures in
-    let z = sizes in omega (arith, z.end, c.requires.readable.small)
+two_to-half-requires g c = let q = c.requires in omega (arith, aligned-small q.lt_m.1 (g.met.C.Costs.small c.args.costs))
 
 pub first_half-early-requires : goal.first_half-early-requires
-first_half-early-requires c =
-    let sizes : let a = c.args in Large a.costs.n a.left a.base a.m c.two_to-half.result = let n = c.requires.lt_m in large n.0 n.1 n.2 c.two_to-half.ensures in
+first_half-early-requires g c =
+    let sizes : let a = c.args in Large (g.C.Costs.costing a.costs).stops a.left a.base a.m c.two_to-half.result = let n = c.requires.lt_m in large n.0 n.1 n.2 c.two_to-half.ensures in
     let q = c.requires in
     let n = q.lt_m in
     let z = sizes in record {
-      readable = q.readable;
       two_rows = q.two_rows;
       le_half = (z.four, z.fours, z.places, z.stops, z.end, z.inside);
       by_index = λ p x y. z.closed p x (omega arith);
       some_row = some_size (sym z.whole) q.some_row;
     }
 
-pub overflow_add-left : goal.overflow_add-left
-overflow_add-left c =
-    let sizes : let a = c.args in Large a.costs.n a.left a.base a.m c.two_to-half.result = let n = c.requires.lt_m in large n.0 n.1 n.2 c.two_to-half.ensures in
-    let z = sizes in omega (arith, z.end, c.requires.readable.small)
-
-pub overflow_mul-half : goal.overflow_mul-half
-overflow_mul-half c =
-    let sizes : let a = c.args in Large a.costs.n a.left a.base a.m c.two_to-half.result = let n = c.requires.lt_m in large n.0 n.1 n.2 c.two_to-half.ensures in
-    let z = sizes in omega (arith, z.end, c.requires.readable.small)
-
 pub chunks-late-requires : goal.chunks-late-requires
-chunks-late-requires c =
-    let sizes : let a = c.args in Large a.costs.n a.left a.base a.m c.two_to-half.result = let n = c.requires.lt_m in large n.0 n.1 n.2 c.two_to-half.ensures in
+chunks-late-requires g c =
+    let sizes : let a = c.args in Large (g.C.Costs.costing a.costs).stops a.left a.base a.m c.two_to-half.result = let n = c.requires.lt_m in large n.0 n.1 n.2 c.two_to-half.ensures in
     let q = c.requires in
     let z = sizes in record {
-      readable = q.readable;
       two_rows = two-rows q.two_rows c.first_half-early.auto.totals c.first_half-early.auto.pivots;
       from_nonzero = (omega (arith, z.four), omega arith, z.end, omega (arith, z.places, z.fours), omega (arith, z.places, z.fours), z.stops, omega (arith, z.fours), z.inside);
       by_index = λ p x y. z.closed p (omega (arith, z.four)) y;
@@ -57,11 +35,11 @@ chunks-late-requires c =
     }
 
 pub overflow_add-result : goal.overflow_add-result
-overflow_add-result c =
-    let sizes : let a = c.args in Large a.costs.n a.left a.base a.m c.two_to-half.result = let n = c.requires.lt_m in large n.0 n.1 n.2 c.two_to-half.ensures in
+overflow_add-result g c =
+    let sizes : let a = c.args in Large (g.C.Costs.costing a.costs).stops a.left a.base a.m c.two_to-half.result = let n = c.requires.lt_m in large n.0 n.1 n.2 c.two_to-half.ensures in
     let a = c.args in
     let h = c.two_to-half.result in
-    let small = c.requires.readable.small in
+    let small = g.met.C.Costs.small c.args.costs in
     let z = sizes in
     omega (
       arith,
@@ -76,7 +54,7 @@ overflow_add-result c =
     )
 
 pub returns : goal.returns
-returns c =
-    let sizes : let a = c.args in Large a.costs.n a.left a.base a.m c.two_to-half.result = let n = c.requires.lt_m in large n.0 n.1 n.2 c.two_to-half.ensures in
+returns g c =
+    let sizes : let a = c.args in Large (g.C.Costs.costing a.costs).stops a.left a.base a.m c.two_to-half.result = let n = c.requires.lt_m in large n.0 n.1 n.2 c.two_to-half.ensures in
     let z = sizes in
     block_made _ c.requires.lt_m.1 c.two_to-half.ensures z.whole (omega (arith, z.four)) c.first_half-early.ensures c.chunks-late.ensures

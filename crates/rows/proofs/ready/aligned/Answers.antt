@@ -1,7 +1,6 @@
 -- `rows::ready::aligned` meets its contract.
 use Prim.Native.Nat.{◌%◌}
 use native.Mathlib.Omega.{arith}
-use lib.Pow.{pow_pos}
 use Rattle.rows.proofs.Asked.{tells-no, tells-equal, aligned-made, aligned-multiple}
 use Rattle.rows.proofs.ready.aligned.Goals as goal
 
@@ -10,9 +9,6 @@ returns-then-n-size c = tells-no (λ a. omega (arith, c.if-n-size.true, c.two_to
 
 pub returns-then-n-size-2 : goal.returns-then-n-size-2
 returns-then-n-size-2 c = tells-no (λ a. omega (arith, c.if-n-size-2.true, c.two_to-size.ensures, a.inside))
-
-pub nonzero_rem-result : goal.nonzero_rem-result
-nonzero_rem-result c = omega (arith, c.two_to-size.ensures, pow_pos c.args.m)
 
 pub returns : goal.returns
 returns c =

@@ -1,15 +1,8 @@
 -- `rows::ready::ready` meets its contract: each test tells one part of what a pass asks.
 use native.Mathlib.Omega.{arith}
-use lib.Pow.{pow_pos}
 use Rattle.rows.proofs.Blocks.{aligned-small}
 use Rattle.rows.proofs.Asked.{tells-no, tells-also}
 use Rattle.rows.proofs.ready.ready.Goals as goal
-
-pub returns-then-not-readable : goal.returns-then-not-readable
-returns-then-not-readable c = tells-no (λ r. c.readable.ensures.no (c.if-not-readable.true) r.readable)
-
-pub overflow_add-n : goal.overflow_add-n
-overflow_add-n c = omega (arith, (c.readable.ensures.yes (c.if-not-readable.false)).small)
 
 pub returns-then-totals-n : goal.returns-then-totals-n
 returns-then-totals-n c = tells-no (λ r. omega (arith, c.if-totals-n.true, r.space.rows))
@@ -21,7 +14,7 @@ pub returns-then-m-eq0 : goal.returns-then-m-eq0
 returns-then-m-eq0 c = tells-no (λ r. omega (arith, c.if-m-eq0.true, r.some))
 
 pub returns-then-m-gt10 : goal.returns-then-m-gt10
-returns-then-m-gt10 c = tells-no (λ r. omega (arith, c.if-m-gt10.true, aligned-small r.places r.readable.small))
+returns-then-m-gt10 c = tells-no (λ r. omega (arith, c.if-m-gt10.true, aligned-small r.places c.requires))
 
 pub returns-then-n-before : goal.returns-then-n-before
 returns-then-n-before c = tells-no (λ r. omega (arith, c.if-n-before.true, r.earlier))
@@ -32,14 +25,9 @@ returns-then-not-aligned c = tells-no (λ r. c.aligned.ensures.no (c.if-not-alig
 pub returns-then-not-aligned-2 : goal.returns-then-not-aligned-2
 returns-then-not-aligned-2 c = tells-no (λ r. c.aligned-2.ensures.no (c.if-not-aligned-2.true) r.stops)
 
-pub follows-requires : goal.follows-requires
-follows-requires c =
-    omega (arith, (c.aligned.ensures.yes (c.if-not-aligned.false)).inside, pow_pos c.args.m, (c.readable.ensures.yes (c.if-not-readable.false)).small)
-
 pub returns : goal.returns
 returns c =
     tells-also (λ f. record {
-      readable = c.readable.ensures.yes (c.if-not-readable.false);
       space = record { rows = c.if-totals-n.false; marks = c.if-pivots-n.false };
       some = omega (arith, c.if-m-eq0.false);
       places = c.aligned.ensures.yes (c.if-not-aligned.false);

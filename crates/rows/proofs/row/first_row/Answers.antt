@@ -3,91 +3,81 @@ use mathlib.Core.Path.{refl}
 use Prim.Native.Nat.{◌<◌}
 use native.Mathlib.Omega.{arith}
 use lib.ListN.{length}
-use Rattle.rows.proofs.Stores.{kept-none, kept_store, row-part, row-none, row_more}
+use Rattle.rows.proofs.Stores.{kept_store, row-part, row_more}
 use Rattle.rows.proofs.row.first_row.Goals as goal
 
-pub overflow_add-i-end : goal.overflow_add-i-end
-overflow_add-i-end c = omega (arith, c.requires)
-
-pub loop-i-init : goal.loop-i-init
-loop-i-init c = (omega arith, omega arith, refl, kept-none, kept-none, row-none (omega arith))
-
 pub first-begun-requires : goal.first-begun-requires
-first-begun-requires c =
+first-begun-requires g c =
     let q = c.requires in
     let n = q.before_lt_n in
     let inv = c.loop-i.invariant in record {
-      readable = q.readable;
       before_lt_n = (n.0, n.1, omega (arith, c.loop-i-test.true, inv.2, n.2));
       i_value = q.by_index _ inv.0 (omega (arith, c.loop-i-test.true, inv.2));
     }
 
 pub offset_bounds-totals-i : goal.offset_bounds-totals-i
-offset_bounds-totals-i c =
+offset_bounds-totals-i g c =
     let inside : let i = c.loop-i.i in (i < length c.loop-i.totals) × (i < length c.loop-i.pivots) × (i < 1024) = let q = c.requires in
     let inv = c.loop-i.invariant in
     let taken = c.loop-i-test.true in (
       omega (arith, taken, inv.2, inv.3.long, q.two_rows.rows, q.before_lt_n.2),
       omega (arith, taken, inv.2, inv.4.long, q.two_rows.marks, q.before_lt_n.2),
-      omega (arith, taken, inv.2, q.readable.small, q.before_lt_n.2),
+      omega (arith, taken, inv.2, g.met.C.Costs.small c.args.costs, q.before_lt_n.2),
     ) in
     omega (arith, inside)
 
 pub bounds-totals-i : goal.bounds-totals-i
-bounds-totals-i c =
+bounds-totals-i g c =
     let inside : let i = c.loop-i.i in (i < length c.loop-i.totals) × (i < length c.loop-i.pivots) × (i < 1024) = let q = c.requires in
     let inv = c.loop-i.invariant in
     let taken = c.loop-i-test.true in (
       omega (arith, taken, inv.2, inv.3.long, q.two_rows.rows, q.before_lt_n.2),
       omega (arith, taken, inv.2, inv.4.long, q.two_rows.marks, q.before_lt_n.2),
-      omega (arith, taken, inv.2, q.readable.small, q.before_lt_n.2),
+      omega (arith, taken, inv.2, g.met.C.Costs.small c.args.costs, q.before_lt_n.2),
     ) in
     inside.0
 
 pub offset_bounds-pivots-i : goal.offset_bounds-pivots-i
-offset_bounds-pivots-i c =
+offset_bounds-pivots-i g c =
     let inside : let i = c.loop-i.i in (i < length c.loop-i.totals) × (i < length c.loop-i.pivots) × (i < 1024) = let q = c.requires in
     let inv = c.loop-i.invariant in
     let taken = c.loop-i-test.true in (
       omega (arith, taken, inv.2, inv.3.long, q.two_rows.rows, q.before_lt_n.2),
       omega (arith, taken, inv.2, inv.4.long, q.two_rows.marks, q.before_lt_n.2),
-      omega (arith, taken, inv.2, q.readable.small, q.before_lt_n.2),
+      omega (arith, taken, inv.2, g.met.C.Costs.small c.args.costs, q.before_lt_n.2),
     ) in
     omega (arith, inside)
 
 pub bounds-pivots-i : goal.bounds-pivots-i
-bounds-pivots-i c =
+bounds-pivots-i g c =
     let inside : let i = c.loop-i.i in (i < length c.loop-i.totals) × (i < length c.loop-i.pivots) × (i < 1024) = let q = c.requires in
     let inv = c.loop-i.invariant in
     let taken = c.loop-i-test.true in (
       omega (arith, taken, inv.2, inv.3.long, q.two_rows.rows, q.before_lt_n.2),
       omega (arith, taken, inv.2, inv.4.long, q.two_rows.marks, q.before_lt_n.2),
-      omega (arith, taken, inv.2, q.readable.small, q.before_lt_n.2),
+      omega (arith, taken, inv.2, g.met.C.Costs.small c.args.costs, q.before_lt_n.2),
     ) in
     inside.1
 
 pub overflow_step-i : goal.overflow_step-i
-overflow_step-i c =
+overflow_step-i g c =
     let inside : let i = c.loop-i.i in (i < length c.loop-i.totals) × (i < length c.loop-i.pivots) × (i < 1024) = let q = c.requires in
     let inv = c.loop-i.invariant in
     let taken = c.loop-i-test.true in (
       omega (arith, taken, inv.2, inv.3.long, q.two_rows.rows, q.before_lt_n.2),
       omega (arith, taken, inv.2, inv.4.long, q.two_rows.marks, q.before_lt_n.2),
-      omega (arith, taken, inv.2, q.readable.small, q.before_lt_n.2),
+      omega (arith, taken, inv.2, g.met.C.Costs.small c.args.costs, q.before_lt_n.2),
     ) in
     omega (arith, inside)
 
-pub loop-i-smaller : goal.loop-i-smaller
-loop-i-smaller c = omega (arith, c.loop-i-test.true, c.loop-i.invariant.2)
-
 pub loop-i-preserved : goal.loop-i-preserved
-loop-i-preserved c =
+loop-i-preserved g c =
     let inside : let i = c.loop-i.i in (i < length c.loop-i.totals) × (i < length c.loop-i.pivots) × (i < 1024) = let q = c.requires in
     let inv = c.loop-i.invariant in
     let taken = c.loop-i-test.true in (
       omega (arith, taken, inv.2, inv.3.long, q.two_rows.rows, q.before_lt_n.2),
       omega (arith, taken, inv.2, inv.4.long, q.two_rows.marks, q.before_lt_n.2),
-      omega (arith, taken, inv.2, q.readable.small, q.before_lt_n.2),
+      omega (arith, taken, inv.2, g.met.C.Costs.small c.args.costs, q.before_lt_n.2),
     ) in
     let inv = c.loop-i.invariant in
     let taken = c.loop-i-test.true in
@@ -100,14 +90,8 @@ loop-i-preserved c =
       row_more c.loop-i.i c.first-begun.result (omega arith) inv.0 near.0 near.1 c.first-begun.ensures (refl, refl) inv.5,
     )
 
-pub shape_of-totals : goal.shape_of-totals
-shape_of-totals c = c.loop-i.invariant.3.long
-
-pub shape_of-pivots : goal.shape_of-pivots
-shape_of-pivots c = c.loop-i.invariant.4.long
-
 pub returns : goal.returns
-returns c =
+returns g c =
     let inv = c.loop-i.invariant in record {
       row = row-part (omega arith) (omega (arith, c.loop-i-test.false, inv.1, inv.2)) inv.5;
       kept = (inv.3, inv.4);

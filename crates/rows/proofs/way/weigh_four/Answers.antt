@@ -1,16 +1,9 @@
 -- `rows::way::weigh_four` meets its contract.
-use native.Mathlib.Omega.{arith}
 use Rattle.rows.proofs.Ways.{weighed-by}
 use Rattle.rows.proofs.way.weigh_four.Goals as goal
 
-pub weigh-d-requires : goal.weigh-d-requires
-weigh-d-requires c =
-    let w = c.to_four-w.ensures in
-    let q = c.requires.light in
-    (q.0, omega (arith, w.d.small), omega (arith, q.1.d))
-
 pub returns : goal.returns
-returns c =
+returns g c =
     let w = c.to_four-w.ensures in
     record {
       a = weighed-by w.a c.weigh-a.ensures;

@@ -3,17 +3,12 @@ use mathlib.Core.Path.{sym, ◌∙◌}
 use Prim.Native.Nat.{◌^◌, ◌<◌}
 use native.Mathlib.Omega.{arith}
 use Rattle.group_sums.proofs.Between.{between-pos, between-lt}
-use Rattle.screen.proofs.Order.{count, few, stop-lt, between-found, between-later}
+use Rattle.screen.proofs.Order.{count, stop-lt, between-found, between-later}
 use Rattle.screen.proofs.forks.place_between.Goals as goal
 
 pub loop-p-init : goal.loop-p-init
 loop-p-init c =
     (count _ _ c.requires.0 _ c.stop_count-n.ensures, omega arith, between-pos _ _ c.requires.0.allowed _ c.requires.1 c.requires.2)
-
-pub bounds-order-p : goal.bounds-order-p
-bounds-order-p c =
-    let inside : c.loop-p.p < 2 ^ c.args.k = omega (arith, c.loop-p.invariant.0, c.loop-p-test.true) in
-    omega (arith, inside, c.requires.0.long)
 
 pub fork_between-requires : goal.fork_between-requires
 fork_between-requires c =
@@ -25,14 +20,6 @@ pub returns-then-fork_between-v : goal.returns-then-fork_between-v
 returns-then-fork_between-v c =
     let inside : c.loop-p.p < 2 ^ c.args.k = omega (arith, c.loop-p.invariant.0, c.loop-p-test.true) in
     between-found _ _ c.requires.0 _ _ c.loop-p.invariant.1 inside (sym c.fork_between.ensures ∙ c.if-fork_between-v.true)
-
-pub overflow_add-p : goal.overflow_add-p
-overflow_add-p c =
-    let inside : c.loop-p.p < 2 ^ c.args.k = omega (arith, c.loop-p.invariant.0, c.loop-p-test.true) in
-    omega (arith, few _ _ c.requires.0, inside)
-
-pub loop-p-smaller : goal.loop-p-smaller
-loop-p-smaller c = omega arith
 
 pub loop-p-preserved : goal.loop-p-preserved
 loop-p-preserved c =

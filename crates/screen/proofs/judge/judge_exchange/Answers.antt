@@ -1,28 +1,27 @@
 -- `screen::judge::judge_exchange` meets its contract: the records, then the fork.
-use mathlib.Core.Path.{sym, ap, ◌∙◌}
+use mathlib.Core.Path.{sym, ap}
 use native.Mathlib.Omega.{arith}
-use Rattle.base.specs.Outcome.{number}
-use Rattle.times.specs.InPath.{time_in}
+use Rattle.std.proofs.lemmas.Result.{err_from_is_err_and}
+use Rattle.base.specs.Outcome.{done}
 use Rattle.screen.proofs.Order.{count}
-use Rattle.screen.proofs.Records.{GoodRecords, records-judged, exchange-refused, exchange-out, exchange-given}
+use Rattle.screen.proofs.Records.{records-done, exchange-refused, exchange-out, exchange-given}
 use Rattle.screen.proofs.judge.judge_exchange.Goals as goal
+use Rattle.screen.proofs.judge.judge_exchange.Goals.{then-fork-eq0-via-then-fork-eq0, then-fork-eq0-via-else-fork-eq0+then-stop_count-fork}
 
-pub returns-then-faulty-ne0 : goal.returns-then-faulty-ne0
-returns-then-faulty-ne0 c = sym (ap number (exchange-refused _ _ _ _ _ _ c.judge_records-faulty.ensures c.if-faulty-ne0.true))
+pub returns-in_err-judge_records : goal.returns-in_err-judge_records
+returns-in_err-judge_records c =
+    let p = err_from_is_err_and c.from_residual.result c.from_residual.ensures.1 in
+    rw (p.1, p.2) (sym (ap done (exchange-refused _ _ _ _ _ _ c.in_err-judge_records.ensures)))
 
 pub returns-then-fork-eq0 : goal.returns-then-fork-eq0
 returns-then-fork-eq0 c =
-    let good : let a = c.args in GoodRecords (time_in a.version a.bytes.now) a.k a.order.now a.sums.now = records-judged _ _ _ _ (sym c.judge_records-faulty.ensures ∙ c.if-faulty-ne0.false) in
-    sym (ap number (exchange-out _ _ _ _ _ good (λ a b. absurd (omega (arith, c.if-fork-eq0.true)))))
-
-pub returns-then-stop_count-fork : goal.returns-then-stop_count-fork
-returns-then-stop_count-fork c =
-    let good : let a = c.args in GoodRecords (time_in a.version a.bytes.now) a.k a.order.now a.sums.now = records-judged _ _ _ _ (sym c.judge_records-faulty.ensures ∙ c.if-faulty-ne0.false) in
-    let g = good in
-    sym (ap number (exchange-out _ _ _ _ _ g (λ a b. absurd (omega (arith, count _ _ g.judged _ c.stop_count.ensures, c.if-stop_count-fork.true)))))
+    let g = records-done _ _ _ _ c.in_ok-judge_records.ensures in
+    elim c.then-fork-eq0.branch [
+      | then-fork-eq0-via-then-fork-eq0 w ↦ sym (ap done (exchange-out _ _ _ _ _ g (λ a b. absurd (omega (arith, w.if-fork-eq0.true)))))
+      | then-fork-eq0-via-else-fork-eq0+then-stop_count-fork w ↦ sym (ap done (exchange-out _ _ _ _ _ g (λ a b. absurd (omega (arith, count _ _ g.judged _ w.stop_count.ensures, w.if-stop_count-fork.true)))))
+    ]
 
 pub returns : goal.returns
 returns c =
-    let good : let a = c.args in GoodRecords (time_in a.version a.bytes.now) a.k a.order.now a.sums.now = records-judged _ _ _ _ (sym c.judge_records-faulty.ensures ∙ c.if-faulty-ne0.false) in
-    let g = good in
-    sym (ap number (exchange-given _ _ _ _ _ g (omega (arith, c.if-fork-eq0.false)) (omega (arith, count _ _ g.judged _ c.stop_count.ensures, c.if-stop_count-fork.false))))
+    let g = records-done _ _ _ _ c.in_ok-judge_records.ensures in
+    sym (ap done (exchange-given _ _ _ _ _ g (omega (arith, c.if-fork-eq0.false)) (omega (arith, count _ _ g.judged _ c.stop_count.ensures, c.if-stop_count-fork.false))))

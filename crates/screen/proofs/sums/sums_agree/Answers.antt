@@ -2,15 +2,11 @@
 use mathlib.Core.Path.{sym, ◌∙◌}
 use Prim.Native.Nat.{◌^◌, ◌<◌}
 use native.Mathlib.Omega.{arith}
-use lib.Pow.{pow_pos}
 use Rattle.orders.specs.Lent.{order_in}
 use Rattle.group_sums.proofs.Between.{Between}
 use Rattle.screen.proofs.Order.{count, few, stop-lt, fork-of}
 use Rattle.screen.proofs.Testing.{tested-none, tested-more, tested-fails, tested-not, tested-all}
 use Rattle.screen.proofs.sums.sums_agree.Goals as goal
-
-pub bounds-sums-0 : goal.bounds-sums-0
-bounds-sums-0 c = omega (arith, c.requires.1, pow_pos c.args.k)
 
 pub returns-then-sums-ne0 : goal.returns-then-sums-ne0
 returns-then-sums-ne0 c = tested-not _ _ _ _ c.requires.0 c.requires.1 (λ e. absurd (omega (arith, e, c.if-sums-ne0.true)))
@@ -19,47 +15,29 @@ pub loop-p-init : goal.loop-p-init
 loop-p-init c =
     (count _ _ c.requires.0 _ c.stop_count-n.ensures, omega arith, tested-none _ _ _ _ c.requires.0 c.requires.1 (omega (arith, c.if-sums-ne0.false)))
 
-pub bounds-order-p : goal.bounds-order-p
-bounds-order-p c =
-    let inside : c.loop-p.p < 2 ^ c.args.k = omega (arith, c.loop-p.invariant.0, c.loop-p-test.true) in
-    omega (arith, inside, c.requires.0.long)
-
 pub fork_between-v-requires : goal.fork_between-v-requires
 fork_between-v-requires c =
-    let inside : c.loop-p.p < 2 ^ c.args.k = omega (arith, c.loop-p.invariant.0, c.loop-p-test.true) in
+    let inside : c.loop-p.p < 2 ^ c.args.path.k = omega (arith, c.loop-p.invariant.0, c.loop-p-test.true) in
     let j = c.requires.0 in
     (j.small, omega (arith, c.loop-p.invariant.1), inside, stop-lt _ _ j _ inside)
 
-pub move_into-requires : goal.move_into-requires
-move_into-requires c =
-    let inside : c.loop-p.p < 2 ^ c.args.k = omega (arith, c.loop-p.invariant.0, c.loop-p-test.true) in
-    (omega (arith, c.loop-p.invariant.1), omega (arith, inside, c.requires.0.long))
-
 pub adds_up-requires : goal.adds_up-requires
 adds_up-requires c =
-    let inside : c.loop-p.p < 2 ^ c.args.k = omega (arith, c.loop-p.invariant.0, c.loop-p-test.true) in
-    let fork : Between c.args.k (order_in c.args.k c.args.order.now) c.loop-p.p c.fork_between-v.result = fork-of _ _ c.requires.0 _ _ c.loop-p.invariant.1 inside c.fork_between-v.ensures in
+    let inside : c.loop-p.p < 2 ^ c.args.path.k = omega (arith, c.loop-p.invariant.0, c.loop-p-test.true) in
+    let fork : Between c.args.path.k (order_in c.args.path.k c.args.order.now) c.loop-p.p c.fork_between-v.result = fork-of _ _ c.requires.0 _ _ c.loop-p.invariant.1 inside c.fork_between-v.ensures in
     let f = fork in
     (omega (arith, c.loop-p.invariant.0, c.requires.1), omega (arith, few _ _ c.requires.0, f.below), omega (arith, c.loop-p.invariant.0, f.below))
 
 pub returns-then-not-adds_up : goal.returns-then-not-adds_up
 returns-then-not-adds_up c =
-    let inside : c.loop-p.p < 2 ^ c.args.k = omega (arith, c.loop-p.invariant.0, c.loop-p-test.true) in
+    let inside : c.loop-p.p < 2 ^ c.args.path.k = omega (arith, c.loop-p.invariant.0, c.loop-p-test.true) in
     tested-fails _ _ _ _ c.requires.0 c.requires.1 _ _ _ _ c.loop-p.invariant.1 inside
     c.fork_between-v.ensures c.loop-p.invariant.0 c.move_into.ensures
     (sym c.adds_up.ensures ∙ c.if-not-adds_up.true)
 
-pub overflow_add-p : goal.overflow_add-p
-overflow_add-p c =
-    let inside : c.loop-p.p < 2 ^ c.args.k = omega (arith, c.loop-p.invariant.0, c.loop-p-test.true) in
-    omega (arith, few _ _ c.requires.0, inside)
-
-pub loop-p-smaller : goal.loop-p-smaller
-loop-p-smaller c = omega arith
-
 pub loop-p-preserved : goal.loop-p-preserved
 loop-p-preserved c =
-    let inside : c.loop-p.p < 2 ^ c.args.k = omega (arith, c.loop-p.invariant.0, c.loop-p-test.true) in (
+    let inside : c.loop-p.p < 2 ^ c.args.path.k = omega (arith, c.loop-p.invariant.0, c.loop-p-test.true) in (
       c.loop-p.invariant.0,
       omega arith,
       tested-more _ _ _ _ c.requires.0 c.requires.1 _ _ _ _ c.loop-p.invariant.1 inside

@@ -1,12 +1,22 @@
 -- `screen::update::exchange` meets its contract: the halves of the fork's block are swapped, then the sums updated.
-use Rattle.screen.proofs.Updating.{half-before, block-fits, now-exchanged, now-judged, now-between, now-updated, now-sums}
+use native.Mathlib.Omega.{arith}
+use Rattle.screen.proofs.Updating.{half-before, block-fits, place-few, block-long, now-exchanged, now-judged, now-between, now-updated, now-sums}
 use Rattle.screen.proofs.update.exchange.Goals as goal
 
 pub overflow_sub-p : goal.overflow_sub-p
 overflow_sub-p c = half-before _ _ c.requires.0 _ c.requires.1 c.requires.2 _ _ c.place_between-p.ensures c.reach-half.ensures
 
+pub overflow_add-p : goal.overflow_add-p
+overflow_add-p c = omega (arith, place-few _ _ c.requires.0 _ c.requires.1 c.requires.2 _ _ c.place_between-p.ensures c.reach-half.ensures)
+
+pub offset_bounds-order-p : goal.offset_bounds-order-p
+offset_bounds-order-p c = omega (arith, place-few _ _ c.requires.0 _ c.requires.1 c.requires.2 _ _ c.place_between-p.ensures c.reach-half.ensures)
+
+pub slice_bounds-swap_halves-end : goal.slice_bounds-swap_halves-end
+slice_bounds-swap_halves-end c = omega (arith, block-fits _ _ c.requires.0 _ c.requires.1 c.requires.2 _ _ c.place_between-p.ensures c.reach-half.ensures, half-before _ _ c.requires.0 _ c.requires.1 c.requires.2 _ _ c.place_between-p.ensures c.reach-half.ensures)
+
 pub swap_halves-requires : goal.swap_halves-requires
-swap_halves-requires c = block-fits _ _ c.requires.0 _ c.requires.1 c.requires.2 _ _ c.place_between-p.ensures c.reach-half.ensures
+swap_halves-requires c = block-long _ _ c.requires.0 _ c.requires.1 c.requires.2 _ _ c.place_between-p.ensures c.reach-half.ensures
 
 pub update_sums-requires : goal.update_sums-requires
 update_sums-requires c =

@@ -13,7 +13,7 @@ loop-u-init c =
 
 pub move_into-requires : goal.move_into-requires
 move_into-requires c =
-    let place : (0 < c.loop-u.at) × (c.loop-u.at < 2 ^ c.args.k) = at-inside _ _ _ _ c.requires.0 _ _ c.loop-u-test.true c.loop-u.invariant.1 _ (c.loop-u.invariant.2 c.loop-u-test.true) c.loop-u.invariant.3 in
+    let place : (0 < c.loop-u.at) × (c.loop-u.at < 2 ^ c.args.path.k) = at-inside _ _ _ _ c.requires.0 _ _ c.loop-u-test.true c.loop-u.invariant.1 _ (c.loop-u.invariant.2 c.loop-u-test.true) c.loop-u.invariant.3 in
     let p = place in (p.0, omega (arith, p.1, c.requires.0.long))
 
 pub sum_by-sum-requires : goal.sum_by-sum-requires
@@ -35,7 +35,7 @@ bounds-sums-u c =
 
 pub place_above-at-requires : goal.place_above-at-requires
 place_above-at-requires c =
-    let place : (0 < c.loop-u.at) × (c.loop-u.at < 2 ^ c.args.k) = at-inside _ _ _ _ c.requires.0 _ _ c.loop-u-test.true c.loop-u.invariant.1 _ (c.loop-u.invariant.2 c.loop-u-test.true) c.loop-u.invariant.3 in
+    let place : (0 < c.loop-u.at) × (c.loop-u.at < 2 ^ c.args.path.k) = at-inside _ _ _ _ c.requires.0 _ _ c.loop-u-test.true c.loop-u.invariant.1 _ (c.loop-u.invariant.2 c.loop-u-test.true) c.loop-u.invariant.3 in
     let p = place in (p.0, omega (arith, p.1, few _ _ c.requires.0))
 
 pub loop-u-smaller : goal.loop-u-smaller

@@ -1,45 +1,47 @@
--- `times::fill::write_four` meets its contract. The invariant: the columns up to `to` are written in four rows, and the rest is as it was.
-use mathlib.Core.Path.{◌≡◌, refl, ◌∙◌}
-use Prim.Native.Nat.{ℕ, ◌+◌, ◌*◌, ◌<◌}
+-- `times::fill::write_four` meets its contract: the columns up to `to` are written, and then the diagonal.
+use mathlib.Core.Path.{◌≡◌, ◌∙◌}
+use Prim.Native.Nat.{ℕ, ◌+◌, ◌*◌, ◌≤◌}
 use native.Mathlib.Omega.{arith}
-use borrow.Author.Rules.{rules}
-use Rattle.stop.specs.Lent.{LentStops, held_stops}
-use Rattle.times.specs.Columns.{written_rows}
-use Rattle.times.specs.Source.{stops_of}
+use lib.ListN.{length}
+use Rattle.base.specs.Lists.{tabulate}
+use Rattle.stop.specs.declared.Stop.{Stop}
+use Rattle.times.specs.Time.{time}
 use Rattle.times.specs.Table.{entry_of}
-use Rattle.times.proofs.Columns.{column_again, diagonal-rows, rows_none}
-use Rattle.times.proofs.Source.{one-good, four-good, moved, four-moves, entry-same, entry-moved}
+use Rattle.times.proofs.Columns.{column_again, diagonal-rows, rows_none, rows-whole}
+use Rattle.times.proofs.Entries.{AreFour, four-good, four-moves, entry-same, entry-moved}
 use Rattle.times.proofs.fill.write_four.Goals as goal
 
 pub loop-to-init : goal.loop-to-init
-loop-to-init c = (search rules, refl, rows_none _ _ _ _ _)
+loop-to-init g c = rows_none _ _ _ _ _
 
--- ---- the needs
 pub write_column-requires : goal.write_column-requires
-write_column-requires c =
-    let here : c.loop-to.to < c.args.n = c.loop-to-test.true in record { four_in_range = (four-good _ _ _ _ c.requires.ready c.args.from _ c.requires.from_bound.0 c.four_of-four.ensures, one-good _ _ _ _ c.requires.ready c.loop-to.to _ here c.stop_of-stop.ensures); to_in_bounds = omega (arith, c.requires.from_bound.1, c.loop-to.invariant.1) }
-
-pub overflow_step-to : goal.overflow_step-to
-overflow_step-to c = record { fits = omega (arith, c.loop-to-test.true, c.ranges.n.fits) }
+write_column-requires g c =
+    let stops : ℕ → Stop = g.S.StopSource.stop_at c.args.stops.now.source in
+    let four : AreFour stops c.args.from c.stop.result c.stop-2.result c.stop-3.result c.stop-4.result = record { first = c.stop.ensures.is; second = c.stop-2.ensures.is; third = c.stop-3.ensures.is; fourth = c.stop-4.ensures.is } in
+    record {
+      four_in_range = (four-good stops c.args.from _ _ _ _ four c.args.stops.now.count c.requires.0 c.args.stops.now.good, c.stop-in-loop-to.ensures.good);
+      to_in_bounds = (c.loop-to-test.true, omega arith);
+    }
 
 pub loop-to-preserved : goal.loop-to-preserved
-loop-to-preserved c =
-    let lent : LentStops = held_stops c.args.coords c.args.speeds c.args.blends c.args.dwells in
-    let rows : ℕ → ℕ → ℕ = λ i. moved c.args.source c.args.bytes.now lent (c.args.from + i) in
-    let here : c.loop-to.to < c.args.n = c.loop-to-test.true in
-    (omega (arith, here), c.write_column.auto.table ∙ c.loop-to.invariant.1, column_again c.args.table.now (c.args.from * c.args.n) c.args.n rows c.loop-to.to _ 4 c.loop-to.table _ here c.requires.from_bound.1 (four-moves _ _ _ c.args.from c.loop-to.to _ _ c.four_of-four.ensures c.stop_of-stop.ensures) c.loop-to.invariant.2 c.write_column.ensures)
-
-pub write_diagonal-requires : goal.write_diagonal-requires
-write_diagonal-requires c = omega (arith, c.requires.from_bound.0, c.requires.from_bound.1, c.loop-to.invariant.1)
+loop-to-preserved g c =
+    let stops : ℕ → Stop = g.S.StopSource.stop_at c.args.stops.now.source in
+    let moved : ℕ → ℕ → ℕ = λ r j. time (stops (c.args.from + r)) (stops j) in
+    let four : AreFour stops c.args.from c.stop.result c.stop-2.result c.stop-3.result c.stop-4.result = record { first = c.stop.ensures.is; second = c.stop-2.ensures.is; third = c.stop-3.ensures.is; fourth = c.stop-4.ensures.is } in
+    column_again c.args.block.now 0 c.args.stops.now.count moved c.loop-to.to _ 4 _ _ c.loop-to-test.true (omega arith)
+    (four-moves stops c.args.from _ _ _ _ four c.loop-to.to _ c.stop-in-loop-to.ensures.is)
+    c.loop-to.invariant c.write_column.ensures
 
 pub returns : goal.returns
-returns c =
-    let lent : LentStops = held_stops c.args.coords c.args.speeds c.args.blends c.args.dwells in
-    let rows : ℕ → ℕ → ℕ = λ i. moved c.args.source c.args.bytes.now lent (c.args.from + i) in
-    let entries : ℕ → ℕ → ℕ = λ i. entry_of (stops_of c.args.source c.args.n c.args.bytes.now lent) (c.args.from + i) in
-    let end : c.loop-to.to ≡ c.args.n = omega (arith, c.loop-to.invariant.0, c.loop-to-test.false) in
-    let whole : c.loop-to.table ≡ written_rows c.args.table.now (c.args.from * c.args.n) c.args.n rows c.args.n 4 = rw end at c.loop-to.invariant.2 in
-    diagonal-rows c.args.table.now (c.args.from * c.args.n) c.args.n c.args.from rows entries 4 c.loop-to.table _ c.requires.from_bound.0 c.requires.from_bound.1
-    (λ i b. entry-same c.args.source c.args.bytes.now lent c.args.n (c.args.from + i) (omega (arith, c.requires.from_bound.0)))
-    (λ i j b x y. entry-moved c.args.source c.args.bytes.now lent c.args.n (c.args.from + i) j (omega (arith, c.requires.from_bound.0)) x y)
+returns g c =
+    let stops : ℕ → Stop = g.S.StopSource.stop_at c.args.stops.now.source in
+    let moved : ℕ → ℕ → ℕ = λ r j. time (stops (c.args.from + r)) (stops j) in
+    let entries : ℕ → ℕ → ℕ = λ r. entry_of (tabulate c.args.stops.now.count stops) (c.args.from + r) in
+    let end : c.loop-to.to ≡ c.args.stops.now.count = omega arith in
+    let whole = rw end at c.loop-to.invariant in
+    let room : 0 + 4 * c.args.stops.now.count ≤ length c.args.block.now = omega arith in
+    diagonal-rows c.args.block.now 0 c.args.stops.now.count c.args.from moved entries 4 _ _ c.requires.0 room
+    (λ r b. entry-same c.args.stops.now.count stops (c.args.from + r))
+    (λ r j b x y. entry-moved c.args.stops.now.count stops (c.args.from + r) j (omega (arith, c.requires.0)) x y)
     whole c.write_diagonal.ensures
+    ∙ rows-whole c.args.block.now c.args.stops.now.count entries 4 c.requires.1

@@ -1,17 +1,10 @@
 use mathlib.Core.Path.{◌≡◌}
-use Prim.Native.Nat.{◌-◌, ◌≤◌}
-use lib.ListN.{length}
-use Rattle.stop.specs.Lent.{buffers}
+use Prim.Native.Nat.{◌*◌}
+use Rattle.base.specs.Lists.{tabulate}
 use Rattle.times.specs.Rows.{filled}
-use Rattle.times.specs.Source.{stops_of}
 use Rattle.times.specs.Table.{entry_of}
 use Rattle.times.proofs.fill.write_fours.Given as goal
 
-abbrev pub invariant-loop-from : goal.invariant-loop-from
-invariant-loop-from l =
-    (l.from ≤ l.n)
-    × (length l.table ≡ length l.initial.table)
-    × (l.table ≡ filled l.initial.table l.n (entry_of (stops_of l.source l.n l.bytes (buffers l.coords l.speeds l.blends l.dwells))) l.from)
-
-abbrev pub decreases-loop-from : goal.decreases-loop-from
-decreases-loop-from l = l.n - l.from
+abbrev pub invariant-loop-four : goal.invariant-loop-four
+invariant-loop-four g l =
+    l.table ≡ filled l.initial.table l.stops.count (entry_of (tabulate l.stops.count (g.S.StopSource.stop_at l.stops.source))) (4 * l.four)

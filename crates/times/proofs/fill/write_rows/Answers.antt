@@ -17,4 +17,4 @@ unfolding table_of
 whole n f t₀ t l e = rw (length-tabulate n f) (e ∙ filled-all t₀ n (entry_of (tabulate n f)) l)
 
 pub returns : goal.returns
-returns c = whole _ _ _ _ c.requires.table_len (c.write_rest.ensures _ c.write_fours-start.ensures.1)
+returns g c = whole _ _ _ _ c.requires (c.write_rest.ensures _ c.write_fours.ensures)

@@ -1,0 +1,14 @@
+use Rattle.std.specs.Prelude.{not, eqb}
+use mathlib.Core.Path.{◌≡◌}
+use Prim.Native.Nat.{◌+◌, ◌-◌, ◌%◌, ◌^◌}
+use Rattle.rows.specs.Row.{next}
+use Rattle.rows.proofs.Made.{Made}
+use Rattle.rows.proofs.row.next_row.Given as goal
+
+abbrev pub invariant-loop-i : goal.invariant-loop-i
+invariant-loop-i g l =
+    (l.i % 4 ≡ 0)
+    × Made l.place (l.place + 1) (next (g.C.Costs.costing l.costs) l.place (not (eqb g.row.EARLY 0))) (g.C.Costs.costing l.costs).stops 0 l.base l.size (2 ^ l.t) l.i l.initial.totals l.initial.pivots l.totals l.pivots l.count
+
+abbrev pub decreases-loop-i : goal.decreases-loop-i
+decreases-loop-i g l = l.base + l.size - l.i

@@ -1,8 +1,0 @@
--- `stop::signed_at` meets its contract: beyond the end a list gives its default.
-use mathlib.Core.Path.{sym}
-use lib.ListN.{get_or-eq_default}
-use lib.IntN.{pos}
-use Rattle.stop.proofs.signed_at.Goals as goal
-
-pub returns-else-i-numbers : goal.returns-else-i-numbers
-returns-else-i-numbers c = sym (get_or-eq_default c.args.numbers.now (pos 0) c.if-i-numbers.false)

@@ -1,7 +1,0 @@
--- `stop::unsigned_at` meets its contract: beyond the end a list gives its default.
-use mathlib.Core.Path.{sym}
-use lib.ListN.{get_or-eq_default}
-use Rattle.stop.proofs.unsigned_at.Goals as goal
-
-pub returns-else-i-numbers : goal.returns-else-i-numbers
-returns-else-i-numbers c = sym (get_or-eq_default c.args.numbers.now 0 c.if-i-numbers.false)
