@@ -7,9 +7,10 @@
 
 use all_orders_output::ENOUGH_INPUT;
 
+// The text of `plan`, about another output: a program's entry has no parameters, and a generic one in a crate of its own would hold these lines once more.
 fn main() {
     let mut input = [0u8; ENOUGH_INPUT];
     let count = io::read_full(0, &mut input);
     let output = all_orders_output::output_for(&input[..count]);
-    io::write_all(1, &output.bytes[..output.count]);
+    io::write_all(1, output.as_bytes());
 }

@@ -7,7 +7,7 @@ use native.Mathlib.Omega.{arith}
 use lib.ListN.{length, get_or, length-append}
 use lib.Pow.{pow_mono}
 use Rattle.base.specs.Size.{stop_count}
-use Rattle.base.proofs.Size.{stop_count-pow}
+use Rattle.base.proofs.Size.{stop_count-pow, stop_count-pos}
 use Rattle.tree.specs.Order.{order_of}
 use Rattle.tree.specs.Total.{total}
 use Rattle.tree.proofs.Link.{length-order_of, get_or-order_of}
@@ -36,6 +36,12 @@ few-stops k n h e =
     let eight : n ≤ 8 = rw stops (pow-le-8 k h) in
     record { stops = stops; eight = eight; square = le_trans (mul-le-mul_left n eight) (mul-le-mul_right 8 eight) }
 
+pub count-le-8 : (k : ℕ) → k ≤ print_max_k → stop_count k ≤ 8
+count-le-8 k h = (few-stops k (stop_count k) h refl).eight
+
+pub count-square : (k : ℕ) → k ≤ print_max_k → stop_count k * stop_count k ≤ 64
+count-square k h = (few-stops k (stop_count k) h refl).square
+
 pub sets-le-128 : (k : ℕ) → k ≤ print_max_k → set_count k ≤ 128
 sets-le-128 k h = pow_mono {i = 2 ^ k - 1} {j = 7} (omega (arith, pow-le-8 k h))
 
@@ -62,3 +68,6 @@ line_small k t F h small =
     let stops : length (spaced (order_of k F)) ≡ 2 * length (order_of k F)
     = length-spaced (order_of k F) (λ p b. rw (get_or-order_of k F p (omega arith)) (omega (arith, stop_in-lt k F p))) in
     rw (length-append, length-append) (omega arith)
+
+-- what code goes by for its bounds
+pub ruleset few = (stop_count-pos, pow-le-8, count-le-8, count-square, sets-le-128, length-append)

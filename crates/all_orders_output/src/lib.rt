@@ -1,9 +1,9 @@
 // What the program `all_orders` prints for the bytes that it reads: a line for each allowed order of a path of up to 8 stops, or the number of
 // a refusal.
 //
-// `output_for` is the one public function and has no `requires`. The output is a value: it needs no lent buffer.
+// No public function has a `requires`. The output is a value: it needs no lent buffer.
 
-#![tactic(auto)]
+#![tactic(auto, using(orders::proofs::Size::sizes, crate::proofs::Sizes::few), unfolding(crate::specs::Text::line_of, crate::specs::Text::refusal_line))]
 
 mod lines;
 mod output;

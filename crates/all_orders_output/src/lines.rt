@@ -53,6 +53,7 @@ impl SmallTable<'_> {
     {
         let count = 1usize << (stop_count(self.k) - 1);
         let mut out = Output::new();
+        // j is the number of a line, and no index.
         for j in 0..count {
             self.put_order(&mut out, forks_on(j));
         }

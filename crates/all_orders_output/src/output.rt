@@ -19,7 +19,7 @@ pub struct Output {
 }
 
 impl Output {
-    ghost use Rattle.std.specs.Prelude.{◌≡◌, ◌≤◌, [], ◌++◌, length};
+    ghost use Rattle.std.specs.Prelude.{◌≡◌, ◌≤◌, [], ◌++◌, length, take};
     ghost use Rattle.base.specs.Refusal.{refusal_number};
     ghost use Rattle.all_orders_output.specs.Decimal.{decimal};
     ghost use Rattle.all_orders_output.specs.Text.{spaced, line_of, refusal_line};
@@ -46,7 +46,7 @@ impl Output {
         self.count = end;
     }
 
-    // Puts a number in decimal.
+    // Puts a number in decimal. There is no heap and so no `String`; of what `write!` puts into a writer that is no `String` no contract of the library says anything.
     fn put_decimal(&mut self, number: u64)
         requires { length (text_of self.old ++ decimal number) ≤ longest_text }
         ensures { text_of self.new ≡ text_of self.old ++ decimal number }
@@ -74,6 +74,13 @@ impl Output {
         self.put_decimal(total);
         self.put_stops(order);
         self.put(b"\n");
+    }
+
+    // The bytes of the output. One line, as of `plan_output`: the two types keep other facts of other sizes.
+    pub fn as_bytes(&self) -> &[u8]
+        ensures { result.now ≡ take self.now.count self.now.bytes }
+    {
+        &self.bytes[..self.count]
     }
 
     // The number of a refusal, and byte 10.

@@ -2,7 +2,7 @@
 //
 // Each exported function is the call of the same name with a signed result: what the call gives, or the refusal's number made negative.
 // Exported names begin with `ffi`. No exported function has a `requires`, and each keeps all that the call behind it promises.
-// The parameters stay apart, a slice or a number each, as C hands them.
+// The parameters stay apart, a slice or a number each, as C hands them: the fields, the names and the forks too, of which a call takes any number.
 
 #![tactic(auto)]
 

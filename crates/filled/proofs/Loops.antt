@@ -1,6 +1,6 @@
 -- Loops that hold the least of some numbers, and the places of a square of n numbers a row.
-use mathlib.Core.Path.{◌≡◌, sym, ap, ◌∙◌}
-use mathlib.Core.Bool.{Bool, true, cond}
+use mathlib.Core.Path.{◌≡◌, sym}
+use mathlib.Core.Bool.{true}
 use mathlib.Core.List.{List}
 use Prim.Native.Nat.{ℕ, suc, ◌+◌, ◌*◌, ◌^◌, ◌≤◌, ◌<◌}
 use native.Mathlib.Nat.{mul-le-mul_right, suc-mul}
@@ -8,6 +8,8 @@ use native.Mathlib.Numerals.{add-one}
 use native.Mathlib.Omega.{arith}
 use borrow.Author.Tests.{le-leb, lt-leb}
 use lib.Dec.{leb}
+use lib.Pow.{pow_mono}
+use Rattle.base.proofs.Size.{stop_count-pow}
 use Rattle.tree.specs.Block.{beside_of}
 use Rattle.tree.specs.Neighbour.{trail}
 use Rattle.walks.specs.Rows.{turn, loop}
@@ -34,10 +36,6 @@ pub least-group : (tray : Tray) (row : List ℕ) (p i to first size : ℕ) (held
 unfolding from_group
 least-group tray row p i to first size held e a b = rw (← a, ← b) e
 
--- the total of what is held, where a test holds
-pub held-total : (b : Bool) (r total stop : ℕ) (held : ℕ × ℕ) → r ≡ cond b total unreached → (total, stop) ≡ held → r ≡ cond b held.0 unreached
-held-total b r total stop held e f = e ∙ ap (λ (q : ℕ × ℕ). cond b q.0 unreached) f
-
 -- ---- the square
 
 -- a row is within n² entries
@@ -54,3 +52,10 @@ row_small n a l h =
 -- all of them are few
 pub square-small : (n : ℕ) → n ≤ 64 → n * n ≤ 4096
 square-small n h = row_small n n (omega arith) h
+
+-- a tree has at most 64 stops
+pub pow-few : (k : ℕ) → k ≤ 6 → 2 ^ k ≤ 64
+pow-few k h = pow_mono {i = k} {j = 6} h
+
+-- how many stops there are, for the tests of lengths
+pub ruleset counts = (stop_count-pow, pow-few, square-small)

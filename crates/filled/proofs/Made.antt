@@ -2,12 +2,11 @@
 use mathlib.Core.Path.{◌≡◌, refl, sym, ap, subst, ◌∙◌}
 use mathlib.Core.Bool.{Bool, true, false, cond, ◌&&◌}
 use mathlib.Core.List.{List, [], ◌++◌}
-use mathlib.Core.Logic.{◌≢◌}
 use Prim.Native.Nat.{ℕ, zero, suc, ◌+◌, ◌*◌, ◌-◌, ◌%◌, ◌^◌, ◌≤◌, ◌<◌}
-use native.Mathlib.Nat.{mul-le-mul_right, suc-mul, pow-succ'}
+use native.Mathlib.Nat.{pow-succ'}
 use native.Mathlib.Omega.{arith}
 use lib.Dec.{leb}
-use lib.ListN.{length, get_or, set, take, drop, length-set, length-append, length-drop, get_or-append}
+use lib.ListN.{length, get_or, set, take, drop, length-append, length-drop, get_or-append}
 use lib.Pow.{pow_mono, pow_pos}
 use lib.Seq.{get_or-set_same, get_or-set_other, length-take-le}
 use Rattle.base.proofs.Bools.{both}
@@ -19,7 +18,7 @@ use Rattle.filled.specs.declared.tray.Tray.{Tray}
 use Rattle.filled.specs.Row.{unreached, total_in, in_set, filled_of, times_of, cell_of, least_in, standing, through, from_group, IsRow, RowIsMade, RowsMade, CellsMade}
 use Rattle.filled.specs.Table.{beside_filled}
 use Rattle.filled.proofs.Groups.{Grouped, grouped}
-use Rattle.filled.proofs.Loops.{row-square, row_small}
+use Rattle.filled.proofs.Loops.{row-square}
 use Rattle.filled.proofs.Numbers.{loop-same, total-le, stop-beside}
 use Rattle.filled.proofs.Pairs.{pair-crossed, pair-kept, pair-weighed, pair-skipped}
 use Rattle.filled.proofs.Recurrence.{table-zero}
@@ -43,10 +42,6 @@ module _ (tray : Tray) where
   -- there is one
   pub tray-some : 0 < n
   tray-some = omega (arith, tray.stops, pow_pos tray.k)
-
-  -- where a row starts, and where it ends
-  pub tray-row : (p : ℕ) → p < n → (p * n ≤ 4096) × (n ≤ 64)
-  tray-row p h = (row_small n p (omega arith) tray-few, tray-few)
 
   -- times have 32 bits
   pub tray-short : (a b : ℕ) → times_of tray a b < 2 ^ 32
@@ -144,32 +139,9 @@ module _ (tray : Tray) where
 
 -- ---- stores
 
--- two cells of n numbers a row are apart
-cells-apart : (n p q i j : ℕ) → i < n → j < n → q < p → q * n + j ≢ p * n + i
-cells-apart n p q i j a b h e =
-    let r : suc q * n ≤ p * n = mul-le-mul_right n h in
-    omega (arith, suc-mul q n)
-
 module _ (tray : Tray) (work : List ℕ) (p : ℕ) where
-  -- no cell of a row is made at first
-  pub cells-none : CellsMade tray work p 0
-  cells-none = record { made = λ j b. absurd (omega arith) }
-
-  -- a row whose cells are all made
-  pub rows_more : RowsMade tray work p → (i : ℕ) → tray.n ≤ i → CellsMade tray work p i → RowsMade tray work (p + 1)
-  rows_more r i b c = record { rows = r.rows; made = λ q j x y. go q j x y (trich q p) }
-    where
-      go : (q j : ℕ) → q < p + 1 → j < tray.n → Trich q p → get_or work (q * tray.n + j) 0 ≡ total_in (cell_of tray q j)
-      go q j x y (below z) = r.made q j z y
-      go q j x y (equal z) = rw z (c.made j (omega arith))
-      go q j x y (above z) = absurd (omega arith)
-
   module _ (i v : ℕ) (b : i < tray.n) (here : ℕ) (e : here ≡ p * tray.n + i) where
-    -- a store in row p leaves the rows before
-    pub rows-store : RowsMade tray work p → RowsMade tray (set work here v) p
-    rows-store r = record { rows = length-set work here v ∙ r.rows; made = λ q j x y. rw e (get_or-set_other work (p * tray.n + i) (q * tray.n + j) v 0 (cells-apart tray.n p q i j b y x) ∙ r.made q j x y) }
-
-    -- and makes one cell more
+    -- a store in row p makes one cell more
     pub cells_store : here < length work → CellsMade tray work p i → v ≡ total_in (cell_of tray p i) → CellsMade tray (set work here v) p (i + 1)
     cells_store l c f = record { made = λ j x. rw e (go j x (trich j i)) }
       where
@@ -181,22 +153,6 @@ module _ (tray : Tray) (work : List ℕ) (p : ℕ) where
 -- fewer rows
 pub rows-fewer : (tray : Tray) (work : List ℕ) (p q : ℕ) → RowsMade tray work p → q ≤ p → RowsMade tray work q
 rows-fewer tray work p q r b = record { rows = r.rows; made = λ x i c. r.made x i (omega arith) }
-
--- two cells
-pub pair-store : (tray : Tray) (work : List ℕ) (p i x y here : ℕ) → RowsMade tray work p → CellsMade tray work p i → p < tray.n → i + 1 < tray.n
-    → here ≡ p * tray.n + i → x ≡ total_in (cell_of tray p i) → y ≡ total_in (cell_of tray p (i + 1))
-    → RowsMade tray (set (set work here x) (here + 1) y) p × CellsMade tray (set (set work here x) (here + 1) y) p (i + 2)
-pair-store tray work p i x y here r c b d e f g =
-    let w : List ℕ = set work here x in
-    let i₀ : i < tray.n = omega arith in
-    let l : p * tray.n + tray.n ≤ length work = row_room tray work p r.rows b in
-    let m : length w ≡ length work = length-set work here x in
-    let e' : here + 1 ≡ p * tray.n + (i + 1) = omega arith in
-    let z : i + 1 + 1 ≡ i + 2 = omega arith in
-    let c₂ : CellsMade tray (set w (here + 1) y) p (i + 1 + 1) = cells_store tray w p (i + 1) y d (here + 1) e' (omega arith) (cells_store tray work p i x i₀ here e (omega arith) c f) g in (
-      rows-store tray w p (i + 1) y d (here + 1) e' (rows-store tray work p i x i₀ here e r),
-      rw z at c₂,
-    )
 
 -- ---- the first row
 

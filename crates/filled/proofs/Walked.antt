@@ -4,15 +4,14 @@ use mathlib.Core.Path.{◌≡◌, refl, sym, ap, subst, ◌∙◌}
 use mathlib.Core.Bool.{Bool, true}
 use mathlib.Core.List.{List, [], ◌∷◌, ◌++◌, append_assoc}
 use Prim.Native.Nat.{ℕ, zero, suc, ◌+◌, ◌-◌, ◌^◌, ◌≤◌, ◌<◌}
-use native.Mathlib.Decide.{dec_lt, ℕ_discrete}
+use native.Mathlib.Decide.{ℕ_discrete}
 use native.Mathlib.Omega.{arith}
 use lib.Count.{ones}
 use lib.Dec.{eqb, leb}
-use lib.ListN.{length, get_or, set, drop, length-append, length-set, get_or-append}
+use lib.ListN.{length, get_or, set, drop, length-append, length-set}
 use lib.Pow.{pow_pos}
-use lib.Seq.{get_or-set_same, get_or-set_other, get_or-append_seam, get_or-append-add, get_or-drop, drop-set-lt, ext_get_or}
+use lib.Seq.{get_or-set_same, get_or-set_other, get_or-append_seam, drop-set-lt}
 use Rattle.base.specs.Outcome.{over}
-use Rattle.base.proofs.Outcome.{length_over}
 use Rattle.tree.specs.Neighbour.{in_place}
 use Rattle.tree.specs.Total.{total}
 use Rattle.tree.specs.Wanted.{backward}
@@ -165,17 +164,6 @@ module _ (tray : Tray) where
       -- THE STEP BACK
       pub walking-step : Next tray before cur q j here
       walking-step = record { stop = omega (arith, step-reached.stop, tray-few tray); room = step_room; more = step-written }
-
-  -- THE LIST IS WRITTEN
-  pub walking-end : (before cur : List ℕ) (p i : ℕ) → Walking tray before cur p i 0 → cur ≡ over w before
-  walking-end before cur p i v = ext_get_or 0 cur (over w before) (v.long ∙ sym (length_over w before v.room)) (λ x b. each x (dec_lt x (length w)))
-    where
-      each : (x : ℕ) → Dec (x < length w) → get_or cur x 0 ≡ get_or (over w before) x 0
-      each x (yes l) = v.written x (omega arith) l ∙ sym (get_or-append w (drop (length w) before) 0 x l)
-      each x (no l) =
-          let e : x ≡ length w + (x - length w) = omega arith in
-          v.beyond x (omega arith) ∙ ap (λ y. get_or before y 0) e ∙ sym (get_or-drop (length w) before (x - length w) 0) ∙ sym (get_or-append-add w (drop (length w) before) (x - length w) 0)
-          ∙ ap (λ y. get_or (over w before) y 0) (sym e)
 
   -- as many stops as are filled
   pub count-is : count_of tray ≡ length w

@@ -31,7 +31,9 @@ pub struct ListPlanned {
     pub length: usize,
 }
 
-// The refusal of these lengths: k above 6 (5), then a table not n² long or a lent buffer too short (8).
+// The refusal of these lengths: k above 6 (5), then a table not n² long or a lent buffer too short (8). The lengths stay five numbers, here and in `judge`: a struct of them
+// would be made for one call and taken apart in it, and is no plainer.
+#[tactic(auto, unfolding(crate::specs::Filled::lengths_first, crate::specs::Filled::list_fits), using(crate::proofs::Loops::counts))]
 fn judge_lengths(
     k: u16,
     table: usize,

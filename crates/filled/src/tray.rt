@@ -6,7 +6,8 @@ ghost use Rattle.tree.specs.Neighbour.{trail};
 
 // The tree of n = 2^k stops, which of them are filled, and the times between them: bit i of `filled` is stop i, and the table has row 'from'
 // and column 'to'. The work space stays a parameter: a struct that held the `&mut` would be no plainer, since each contract would have to say too
-// that it is still the same reference and the same tray.
+// that it is still the same reference and the same tray; so how far its rows are made is asked by what reads them. A place and a stop stay numbers: that they are below n is
+// asked where they are used, since n is the tray's and no type of places or stops could keep the fact.
 #[derive(Clone, Copy)]
 pub struct Tray<'a> {
     pub k: u16,
@@ -41,7 +42,7 @@ pub fn group_beside(p: usize, i: usize) -> Group
 }
 
 impl Tray<'_> {
-    ghost use Rattle.std.specs.Prelude.{◌≡◌, ◌&&◌, ◌+◌, ◌/◌, ◌%◌, ◌^◌, ◌<◌, ltb};
+    ghost use Rattle.std.specs.Prelude.{◌≡◌, ◌&&◌, ◌+◌, ◌/◌, ◌%◌, ◌^◌, ◌<◌, ltb, length, get_or};
     ghost use Rattle.filled.specs.Table.{beside_filled};
     ghost use Rattle.filled.specs.Row.{filled_of, times_of};
 
@@ -77,11 +78,19 @@ impl Tray<'_> {
         self.some_filled(group_beside(p, i))
     }
 
+    // The time at a place of the table.
+    pub fn time_at(&self, at: usize) -> u64
+        requires { at < length self.now.table.now }
+        ensures { (result ≡ get_or self.now.table.now at 0) × (result < 2 ^ 32) }
+    {
+        u64::from(self.table[at])
+    }
+
     // What the move from one stop to another takes.
     pub fn time(&self, from: usize, to: usize) -> u64
         requires { (from < self.now.n) × (to < self.now.n) }
         ensures { (result ≡ times_of self.now from to) × (result < 2 ^ 32) }
     {
-        u64::from(self.table[from * self.n + to])
+        self.time_at(from * self.n + to)
     }
 }

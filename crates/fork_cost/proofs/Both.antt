@@ -147,7 +147,3 @@ module _ (bytes : List ℕ) (version k : ℕ) where
 pub both_long : {k : ℕ} {t : ℕ → ℕ → ℕ} {fork : ℕ} {order other totals pivots totals' pivots' : List ℕ} {both : Both} → BothLeft k t fork order other totals pivots totals' pivots' both → 0 < fork → fork < 2 ^ k
     → (length order ≡ 2 ^ k) × (length other ≡ 2 ^ k)
 both_long {k} {t} {fork} l h b = (ap length l.wrote ∙ returned-long k t, ap length l.other ∙ opposite-long k t fork h b)
-
--- judged bytes stay so where the work space keeps its lengths
-pub judged-still : {path : PathBytes} {totals pivots totals' pivots' : ℕ} → Judged path totals pivots → totals' ≡ totals → pivots' ≡ pivots → Judged path totals' pivots'
-judged-still j e f = rw (e, f) j

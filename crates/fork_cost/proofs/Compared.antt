@@ -82,3 +82,6 @@ cost-left {k} {order = order} {other = other} l h b p o s = record {
   where
     long : (length order ≡ 2 ^ k) × (length other ≡ 2 ^ k)
     long = both_long l h b
+
+-- what code goes by for the place where two orders part, and for what is told
+pub ruleset costs = (apart_below, apart-here, apart-before, from-tie, from-dearer)

@@ -11,15 +11,17 @@ use Rattle.std.specs.Prelude.{Ok, Err}
 use Rattle.base.specs.declared.Refusal.{Refusal}
 use Rattle.base.specs.declared.Refusal.TheVariants.{NoSuchFork}
 use Rattle.base.specs.Refusal.{wrong_size, refusal_number}
-use Rattle.base.specs.Outcome.{gives, refuses, number}
+use Rattle.base.specs.Outcome.{gives, giving, refuses, number}
 use Rattle.base.proofs.Numbered.{Numbered, given, need-numbered}
 use Rattle.base.proofs.Outcome.{passed}
 use Rattle.base.proofs.Size.{pow-le-1024}
 use Rattle.path.specs.declared.PathBytes.{PathBytes}
+use Rattle.path.specs.Bytes.{heading_of}
 use Rattle.path.specs.Path.{read_path}
+use Rattle.path.specs.Reading.{heading}
 use lib.Dec.{leb}
 use Rattle.screen.specs.Screen.{places_room}
-use Rattle.screen.proofs.Screen.{GoodPath, places-few, places-good}
+use Rattle.screen.proofs.Screen.{GoodPath, good-path, places-few, places-good}
 use Rattle.screen.proofs.Records.{fork-in, fork-out}
 use Rattle.fork_cost.specs.declared.ForkCost.{ForkCost}
 use Rattle.fork_cost.specs.Cost.{cost_room, cost_of_fork, fork_cost, cost_of, told, CostIsGiven}
@@ -50,6 +52,12 @@ room-places totals pivots orders k = go (dec_le (2 ^ k + 2 ^ k) totals) (dec_le 
     go (yes a) (no b) _ = rw (le-leb _ _ a, lt-leb (2 ^ k + 2 ^ k) pivots (omega arith)) (sym (places-few (least / 2) k (omega (arith, less))))
     go (yes a) (yes b) (no c) = rw (le-leb _ _ a, le-leb _ _ b, lt-leb (2 ^ k + 2 ^ k) orders (omega arith)) (sym (places-few (least / 2) k (omega (arith, less))))
     go (yes a) (yes b) (yes c) = let l : 2 ^ k + 2 ^ k ≤ least = le-min (le-min a b) c in room-good totals pivots orders k a b c ∙ sym (places-good (least / 2) k (omega (arith, l)))
+
+-- a path that was judged with the least of the three lengths
+pub path-good : (bytes : List ℕ) (highest totals pivots orders : ℕ) {two three : ℕ} → two ≡ min totals pivots → three ≡ min two orders → (p : PathBytes)
+    → gives (heading_of p) ≡ giving heading (read_path bytes highest (places_room (three / 2))) → p.bytes.now ≡ bytes → GoodPath bytes highest (cost_room totals pivots orders) p
+path-good bytes highest totals pivots orders e f p g h =
+    good-path _ _ _ _ (room-places totals pivots orders) _ (ap (λ x. x / 2) (f ∙ ap (λ x. min x orders) e)) p g h
 
 -- lengths that are not refused suffice
 pub room-long : (totals pivots orders k : ℕ) → cost_room totals pivots orders k ≡ gives tt → (2 ^ k + 2 ^ k ≤ totals) × (2 ^ k + 2 ^ k ≤ pivots) × (2 ^ k + 2 ^ k ≤ orders)

@@ -4,7 +4,7 @@
 // `fork_cost` is the one public function and has no `requires`; `specs/Cost.antt` says what it tells. No table is made: both orders are planned by the times
 // between the stops in the path's bytes.
 
-#![tactic(auto)]
+#![tactic(auto, using(orders::proofs::Size::sizes, crate::proofs::Compared::costs), unfolding(crate::specs::Cost::told))]
 
 mod plans;
 
@@ -14,7 +14,8 @@ use base::{Refusal, stop_count};
 use screen::judge_path;
 
 // What is told of a fork: whether the returned order has it exchanged, and the least total of the orders that have it the other way. That is so much more than the
-// returned one; or it is the same, and `place` is the last place at which the two orders part.
+// returned one; or it is the same, and `place` is the last place at which the two orders part. `exchanged` is a `bool` as in `planner::plan_held`: a state and
+// no flag beside the others.
 #[derive(Clone, Copy, Debug, PartialEq, Eq)]
 pub enum ForkCost {
     Dearer {

@@ -21,6 +21,9 @@ pub struct Both {
     pub other: u64,
 }
 
+// The path, the fork and the work space are the call's own parameters, passed on to the planner: a struct of the `&mut` would have each contract
+// say that it still holds the same buffers.
+
 // Writes the order that is wanted among those that have `fork` exchanged or not, fork 0 for all orders, and answers its total: no plan of judged bytes is refused.
 fn write_order(
     path: PathBytes<'_>,
@@ -74,6 +77,7 @@ fn last_apart(order: &[u16], other: &[u16]) -> usize
     requires { (length order.now ≤ 1024) × (length other.now ≡ length order.now) }
     ensures { (result ≡ last_apart order.now other.now (length order.now)) × (result < 65536) }
 {
+    // Counted down: the library has no `rposition`, and `zip` no back end.
     for p in (0..order.len()).rev() {
         if order[p] != other[p] {
             return p;

@@ -15,13 +15,6 @@ module _ (bytes : List ℕ) (highest : ℕ) where
   pub head-refused : (n : ℕ) → read_head bytes highest ≡ refuses n → job_head bytes highest ≡ refuses n
   head-refused n e = rw e
 
-  -- and a k
-  pub k-refused : (h : PathHead) (n : ℕ) → read_head bytes highest ≡ gives h → small_enough h.k ≡ refuses n → job_head bytes highest ≡ refuses n
-  k-refused h n e f = rw (e, f)
-
-  pub job-passes : (h : PathHead) → read_head bytes highest ≡ gives h → small_enough h.k ≡ gives tt → job_head bytes highest ≡ gives h
-  job-passes h e f = rw (e, f)
-
   -- where a call's own test begins with that of k, either refuses its path
   pub job-refused : (test : ℕ → Outcome Unit) → ((k n : ℕ) → small_enough k ≡ refuses n → test k ≡ refuses n) → (n : ℕ) → refuses n ≡ job_head bytes highest → read_path bytes highest test ≡ refuses n
   job-refused test first n e = by (read_head bytes highest) refl e

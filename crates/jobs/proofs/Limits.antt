@@ -6,6 +6,8 @@ use native.Mathlib.Omega.{arith}
 use lib.Pow.{pow_mono}
 use lib.Dec.{leb}
 use borrow.Author.Tests.{le-leb, lt-leb, leb-true}
+use Rattle.base.specs.Size.{stop_count}
+use Rattle.base.proofs.Size.{stop_count-pow}
 use Rattle.base.specs.Refusal.{wrong_size}
 use mathlib.Core.Bool.{Bool, true, false}
 use Rattle.base.specs.Outcome.{gives, refuses, need, number}
@@ -22,15 +24,22 @@ pow-le-64 k h = pow_mono {i = k} {j = 6} h
 pub square-le-4096 : (n : ℕ) → n ≤ 64 → n * n ≤ 4096
 square-le-4096 n h = le_trans (mul-le-mul_left n h) (mul-le-mul_right 64 h)
 
+-- the same of the count as code has it
+pub count-le-64 : (k : ℕ) → k ≤ job_max_k → stop_count k ≤ 64
+count-le-64 k h = omega (arith, stop_count-pow k (omega arith), pow-le-64 k h)
+
+pub count-square : (k : ℕ) → k ≤ job_max_k → stop_count k * stop_count k ≤ 4096
+count-square k h = square-le-4096 (stop_count k) (count-le-64 k h)
+
+-- what code goes by for its bounds
+pub ruleset limits = (pow-le-64, count-le-64, count-square)
+
 -- the tests
 pub small-passes : (k : ℕ) → k ≤ job_max_k → small_enough k ≡ gives tt
 small-passes k h = rw (le-leb _ _ h)
 
 pub passes-small : (k : ℕ) → small_enough k ≡ gives tt → k ≤ job_max_k
 passes-small k e = leb-true _ _ (passed (leb k job_max_k) wrong_size (gives tt) (omega arith) (ap number e)).holds
-
-pub large-fails : (k : ℕ) → job_max_k < k → small_enough k ≡ refuses 8
-large-fails k h = rw (lt-leb _ _ h)
 
 module _ (room k : ℕ) where
   pub plan-large : (n : ℕ) → small_enough k ≡ refuses n → plan_test room k ≡ refuses n

@@ -3,7 +3,7 @@
 // Each job takes k up to 6 and keeps its work space to itself. The path's head is judged once, the job's own test of k comes directly after
 // it, and every stop is judged once before anything is written. No public function has a `requires`.
 
-#![tactic(auto)]
+#![tactic(auto, using(orders::proofs::Size::sizes, crate::proofs::Limits::limits))]
 
 mod check;
 mod plan;
@@ -22,7 +22,8 @@ use path::{PathBytes, judge_head};
 // The largest k of a job.
 const JOB_MAX_K: u16 = 6;
 
-// A job's path by its head: a k above 6 is refused directly after it (8).
+// A job's path by its head: a k above 6 is refused directly after it (8). The bytes and the highest known version are the calls' own parameters;
+// what was judged of them is `PathBytes`.
 fn judge_job(path: &[u8], highest: u16) -> Result<PathBytes<'_>, Refusal>
     ensures head { giving opened (said result) ≡ job_head path.now highest }
     ensures same { IfOk result (λ p. p.bytes.now ≡ path.now) }

@@ -1,19 +1,16 @@
 -- Laws of the calls: what each promises after a refusal and after success, from the path's judgement on.
 use mathlib.Core.Path.{◌≡◌, refl, sym, ap, ◌∙◌}
 use mathlib.Core.Bool.{Bool, true, false}
-use mathlib.Core.List.{List, ◌++◌}
+use mathlib.Core.List.{List}
 use Prim.Native.Nat.{ℕ, ◌-◌, ◌^◌, ◌≤◌, ◌<◌}
 use native.Mathlib.Omega.{arith}
-use lib.ListN.{length, set, drop, length-drop, replicate, length-replicate}
+use lib.ListN.{length, set, drop, length-drop}
 use lib.Seq.{paste}
-use borrow.Author.Tests.{le-leb, lt-leb}
 use Rattle.std.specs.Prelude.{Ok, Err}
 use Rattle.base.specs.declared.Refusal.{Refusal}
-use Rattle.base.specs.declared.Refusal.TheVariants.{WrongSize}
 use Rattle.base.specs.Refusal.{refusal_number}
 use Rattle.base.specs.Outcome.{Outcome, gives, refuses, and_then, number, over}
 use Rattle.base.specs.Size.{max_k}
-use Rattle.base.proofs.Outcome.{over-at}
 use Rattle.stop.specs.declared.Stop.{Stop}
 use Rattle.path.specs.declared.PathBytes.{PathBytes}
 use Rattle.path.specs.Path.{path, read_path, stops_in}
@@ -25,7 +22,7 @@ use Rattle.screen.specs.Times.{times_of}
 use Rattle.screen.proofs.Records.{GoodRecords, records-contents, records-times}
 use Rattle.screen.proofs.Screen.{GoodPath}
 use Rattle.named.specs.Names.{names, used, is_name, start_of, under, named, kept_under, lent_under}
-use Rattle.named.specs.Calls.{Kept, room_for, keep_records, come_back, clear_marks, OrderIsKept, OrderComesBack, MarksAreCleared}
+use Rattle.named.specs.Calls.{Kept, room_for, keep_records, come_back, OrderIsKept, OrderComesBack}
 use Rattle.named.proofs.Paste.{paste-front}
 use Rattle.named.proofs.Names.{Fits, room_fits, in-name, start_fits, under-is, keeping, keep-given, coming, Back, back-used}
 
@@ -131,11 +128,3 @@ module _ (bytes : List ℕ) (highest name : ℕ) (shown : Records) (kept : Kept)
         }
 
 -- ---- clearing
-
-pub clear-refuses : (marks : List ℕ) → length marks < names → MarksAreCleared marks marks (Err WrongSize)
-unfolding clear_marks
-clear-refuses marks h = record { said = rw (lt-leb _ _ h); left = rw (lt-leb _ _ h) }
-
-pub clear-made : (marks marks' : List ℕ) → names ≤ length marks → marks' ≡ replicate names 0 ++ drop names marks → MarksAreCleared marks marks' (Ok tt)
-unfolding clear_marks
-clear-made marks marks' h e = record { said = rw (le-leb _ _ h); left = rw (le-leb _ _ h) (e ∙ sym (over-at names (replicate names 0) marks (length-replicate {A = ℕ} names 0))) }

@@ -10,21 +10,21 @@ use lib.Dec.{leb, eqb}
 use lib.ListN.{length, get_or, take, drop, length-drop}
 use lib.Pow.{pow_pos}
 use lib.Seq.{paste, length-take-le, take_all, take-take}
-use borrow.Author.Tests.{le-leb, lt-leb, leb-true, lt-ltb, le-ltb, ne_eqb, eq-eqb, eqb-true}
+use borrow.Author.Tests.{le-leb, lt-leb, leb-true, lt-ltb, le-ltb, eq-eqb, eqb-true}
 use Rattle.base.specs.Refusal.{wrong_size, no_such_name, nothing_kept}
 use Rattle.base.specs.Outcome.{Outcome, gives, refuses, and_then, done, number}
 use Rattle.base.specs.Size.{max_k, stop_count}
 use Rattle.base.proofs.Bools.{both}
 use Rattle.base.proofs.Size.{stop_count-pow, pow-le-1024}
 use Rattle.base.proofs.Numbered.{Numbered, need-numbered}
-use Rattle.base.proofs.Outcome.{passed, number-first, done-refused}
+use Rattle.base.proofs.Outcome.{passed, number-first}
 use Rattle.orders.specs.Lent.{order_in}
 use Rattle.screen.specs.Records.{Records, records_of, lent_records}
 use Rattle.screen.specs.Screen.{screen_room, places_room}
 use Rattle.screen.proofs.Records.{GoodRecords, records-judged}
 use Rattle.screen.proofs.Screen.{places-few, places-good, room-places, room-long, room-good, room-numbered as screen-numbered}
 use Rattle.named.specs.Names.{names, is_name, used, is_used, start_of, under, named_room, places_of, named, lent_under}
-use Rattle.named.proofs.Paste.{blocks-apart}
+use Rattle.named.proofs.Paste.{blocks-apart, place-long}
 
 -- ---- lengths
 
@@ -45,9 +45,6 @@ module _ (marks stops kept order sums : ℕ) where
   places-some : names ≤ marks → places_of marks stops kept order sums ≡ min (min order sums) (min stops kept / names)
   unfolding places_of
   places-some h = rw (le-ltb _ _ h)
-
-  pub places-made : (a b r : ℕ) → names ≤ marks → a ≡ min order sums → b ≡ min stops kept → r ≡ min a (b / names) → r ≡ places_of marks stops kept order sums
-  places-made a b r h e f g = g ∙ ap₂ (λ x y. min x (y / names)) e f ∙ sym (places-some h)
 
   -- the lengths' test is that of the places
   pub room-agrees : (k : ℕ) → named_room marks stops kept order sums k ≡ places_room (places_of marks stops kept order sums) k
@@ -139,6 +136,15 @@ place_of k name n h a b e =
     let l : (name - 1) * n ≤ 7 * 1024 = mul-le-mul {n₁ = name - 1} {m₁ = n} {n₂ = 7} {m₂ = 1024} (omega arith) (omega (arith, c, pow-le-1024 k h)) in
     record { count = c; start = s; small = omega (arith, l); few = omega (arith, c, pow-le-1024 k h); fits = λ size f. omega (arith, s, c, start_fits k name size a b f) }
 
+-- the same by the code's own numbers
+pub start-small : (k name : ℕ) → k ≤ max_k → 1 ≤ name → name ≤ names → (name - 1) * stop_count k ≤ 7168
+start-small k name h a b = (place_of k name (stop_count k) h a b refl).small
+
+pub start-fits : (k name : ℕ) → k ≤ max_k → 1 ≤ name → name ≤ names → (name - 1) * stop_count k + stop_count k ≤ names * 2 ^ k
+start-fits k name h a b = (place_of k name (stop_count k) h a b refl).fits (names * 2 ^ k) (omega arith)
+
+pub ruleset starts = (start-small, start-fits, place-long)
+
 -- what is kept under a name is a copy
 pub under-is : (name n : ℕ) (s all : List ℕ) → n ≤ length s → under name (take n s) all ≡ paste all ((name - 1) * n) s n
 unfolding under
@@ -149,13 +155,6 @@ under-is name n s all l = let e : length (take n s) ≡ n = length-take-le n s l
 module _ (t : ℕ → ℕ → ℕ) (k name : ℕ) (order sums : List ℕ) where
   abbrev pub keeping : Outcome Records
   keeping = and_then (lent_records t k order sums) (named name)
-
-  pub keep-refused : (n : ℕ) → refuses n ≡ done (lent_records t k order sums) → keeping ≡ refuses n
-  keep-refused n e = rw (done-refused (lent_records t k order sums) n e)
-
-  pub keep-unnamed : GoodRecords t k order sums → (1 ≤ name → name ≤ names → ⊥) → keeping ≡ refuses no_such_name
-  unfolding named
-  keep-unnamed g f = rw (g.accepted, name_out name f)
 
   pub keep-given : GoodRecords t k order sums → 1 ≤ name → name ≤ names → keeping ≡ gives (records_of t k (order_in k order))
   unfolding named
@@ -174,13 +173,6 @@ module _ (t : ℕ → ℕ → ℕ) (k name : ℕ) (order sums : List ℕ) where
   module _ (marks stops kept : List ℕ) where
     abbrev pub coming : Outcome Records
     coming = and_then keeping (λ _. lent_under t k name marks stops kept)
-
-    pub back-refused : (n : ℕ) → refuses n ≡ done keeping → coming ≡ refuses n
-    back-refused n e = rw (done-refused keeping n e)
-
-    pub back-unused : GoodRecords t k order sums → 1 ≤ name → name ≤ names → (get_or marks (name - 1) 0 ≡ used → ⊥) → coming ≡ refuses nothing_kept
-    unfolding lent_under is_used
-    back-unused g a b f = rw (keep-given g a b, ne_eqb (get_or marks (name - 1) 0) used f)
 
     pub back-used : GoodRecords t k order sums → 1 ≤ name → name ≤ names → get_or marks (name - 1) 0 ≡ used
         → coming ≡ lent_records t k (drop (start_of k name) stops) (drop (start_of k name) kept)

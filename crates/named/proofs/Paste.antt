@@ -25,13 +25,6 @@ written-at at start n m d s part e long f g =
     ∙ ap (λ (l : List ℕ). take at d ++ l ++ drop (at + n) d) (take-take n n s (omega arith))
     ∙ ap₂ (λ (x y : ℕ). paste d x s y) f g
 
--- and n such places written over the front of another buffer
-pub written-front : (at start n m : ℕ) (d s part : List ℕ) → part ≡ take (at + n - at) (drop at s) → at ≡ start → n ≡ m → part ++ drop n d ≡ paste d 0 (drop start s) m
-written-front at start n m d s part e f g =
-    let i : at + n - at ≡ m = omega arith in
-    let j : n ≡ 0 + m = omega arith in
-    ap₂ (λ (l : List ℕ) (x : ℕ). l ++ drop x d) (e ∙ ap₂ (λ (x y : ℕ). take x (drop y s)) i f) j
-
 -- a copy to the front
 pub paste-front : (d s : List ℕ) (n : ℕ) → n ≤ length s → paste d 0 s n ≡ over (take n s) d
 paste-front d s n long = ap (λ (i : ℕ). take n s ++ drop i d) (zero-add n ∙ sym (length-take-le n s long))

@@ -10,7 +10,7 @@ use base::{Refusal, stop_count};
 use path::PathBytes;
 use screen::judge_records;
 
-// How many names there are, and the mark of a used one.
+// How many names there are, and the mark of a used one: a byte, as C lends the marks.
 pub const NAMES: usize = 8;
 
 pub const USED: u8 = 1;
@@ -33,7 +33,8 @@ pub fn places(marks: usize, stops: usize, kept: usize, order: usize, sums: usize
     order.min(sums).min(stops.min(kept) / NAMES)
 }
 
-// The refusal of the screen's records and then of the name (15).
+// The refusal of the screen's records and then of the name (15). The name, the order and the sums are the call's own parameters, each judged here
+// once.
 pub fn judge_keep(
     path: PathBytes<'_>,
     name: u16,

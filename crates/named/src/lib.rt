@@ -5,7 +5,7 @@
 //
 // No public function has a `requires`. A refusal gives its number and touches no lent buffer. There is no work space.
 
-#![tactic(auto)]
+#![tactic(auto, using(orders::proofs::Size::sizes, crate::proofs::Names::starts), unfolding(crate::specs::Names::places_of, crate::specs::Names::named, crate::specs::Names::is_used, crate::specs::Names::lent_under, crate::specs::Calls::clear_marks))]
 
 mod judge;
 mod store;

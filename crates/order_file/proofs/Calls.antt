@@ -59,11 +59,6 @@ module _ (k : ℕ) (order string : List ℕ) where
 -- ---- a file without its total
 
 module _ (k : ℕ) (file : List ℕ) where
-  -- a file whose records are refused
-  pub unsummed-records : (n : ℕ) → refuses n ≡ done (read_records k file) → refuses n ≡ done (unsummed k file)
-  unfolding unsummed
-  unsummed-records n e = rw (done-refused (read_records k file) n e)
-
   -- a file whose records are not
   pub unsummed-string : stage.Whole k file → unsummed k file ≡ giving (λ o. stage.says k file) (judge_string k (stage.stops k file) (stage.string k file))
   unfolding unsummed
@@ -118,14 +113,6 @@ module _ (k : ℕ) (t : ℕ → ℕ → ℕ) (file : List ℕ) where
 -- ---- reading without a table
 
 module _ (k : ℕ) (file : List ℕ) (places : ℕ) where
-  pub unsummed-k : max_k < k → read.read_unsummed k file places ≡ refuses wrong_k
-  unfolding read.read_unsummed
-  unsummed-k h = rw (lt-leb _ _ h)
-
-  pub unsummed-places : k ≤ max_k → places < 2 ^ k → read.read_unsummed k file places ≡ refuses wrong_size
-  unfolding read.read_unsummed
-  unsummed-places h s = rw (le-leb _ _ h, lt-leb _ _ s)
-
   pub unsummed-contents : k ≤ max_k → 2 ^ k ≤ places → read.read_unsummed k file places ≡ unsummed k file
   unfolding read.read_unsummed
   unsummed-contents h s = rw (le-leb _ _ h, le-leb _ _ s)
@@ -150,21 +137,9 @@ module _ (k : ℕ) (file order : List ℕ) where
 -- ---- reading with a table
 
 module _ (k : ℕ) (table file : List ℕ) (places room : ℕ) where
-  pub read-k : max_k < k → read.read_file k table file places room ≡ refuses wrong_k
-  unfolding read.read_file
-  read-k h = rw (lt-leb _ _ h)
-
   pub read_table : k ≤ max_k → (length table ≡ 2 ^ k * 2 ^ k → ⊥) → read.read_file k table file places room ≡ refuses wrong_size
   unfolding read.read_file
   read_table h t = rw (le-leb _ _ h, ne_eqb _ _ t)
-
-  pub read-places : k ≤ max_k → length table ≡ 2 ^ k * 2 ^ k → places < 2 ^ k → read.read_file k table file places room ≡ refuses wrong_size
-  unfolding read.read_file
-  read-places h t p = rw (le-leb _ _ h, eq-eqb _ _ t, lt-leb _ _ p)
-
-  pub read-room : k ≤ max_k → length table ≡ 2 ^ k * 2 ^ k → 2 ^ k ≤ places → room < byte_count (2 ^ k) → read.read_file k table file places room ≡ refuses wrong_size
-  unfolding read.read_file
-  read-room h t p b = rw (le-leb _ _ h, eq-eqb _ _ t, le-leb _ _ p, lt-leb _ _ b)
 
   -- what is known where the lent lengths suffice
   pub record Lent : Type 0 where

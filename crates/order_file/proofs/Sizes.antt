@@ -3,6 +3,8 @@ use mathlib.Core.Path.{◌≡◌, refl, ap, ◌∙◌}
 use Prim.Native.Nat.{ℕ, ◌≤◌, ◌<◌, ◌^◌}
 use native.Mathlib.Omega.{arith}
 use lib.Pow.{pow_pos}
+use Rattle.records.proofs.LengthLaws.{length-small, order-length, stops-length, forks-length, end-length}
+use Rattle.orders.proofs.Size.{stop_count-square}
 use Rattle.base.specs.Size.{max_k, stop_count}
 use Rattle.base.proofs.Size.{stop_count-pow, pow-le-1024}
 use Rattle.orders.specs.Bits.{byte_count}
@@ -30,3 +32,6 @@ sizes k n m h e f =
 -- the same of the definitions themselves
 pub true-sizes : (k : ℕ) → k ≤ max_k → Sizes k (2 ^ k) (byte_count (2 ^ k))
 true-sizes k h = record { count = refl; bytes = refl; some = pow_pos k; small = pow-le-1024 k h; few = omega (arith, pow-le-1024 k h) }
+
+-- what code goes by for the lengths of the records
+pub ruleset lengths = (length-small, order-length, stops-length, forks-length, end-length, stop_count-square)

@@ -3,7 +3,7 @@
 // No public function has a `requires`. A refusal touches no lent buffer; after success an output holds the result first and is
 // untouched beyond.
 
-#![tactic(auto)]
+#![tactic(auto, using(orders::proofs::Size::sizes, crate::proofs::Sizes::lengths), unfolding(crate::specs::Read::read_file, crate::specs::Read::read_unsummed, crate::specs::Write::write_file, crate::specs::Reading::judge_file, crate::specs::Reading::unsummed, crate::specs::Reading::judge_string))]
 
 mod check;
 mod place;

@@ -19,7 +19,8 @@ use base::{MAX_K, Refusal, stop_count};
 use orders::byte_count;
 use records::{Kind, put_pair, put16, put64};
 
-// Judges whether the file of an order can be written to `room` bytes. Making the order's fork string judges the order.
+// Judges whether the file of an order can be written to `room` bytes. Making the order's fork string judges the order. k and the order are the
+// call's own parameters, which the calls below it judge.
 pub fn judge_write(
     k: u16,
     order: &[u16],
@@ -82,7 +83,8 @@ fn put_stops(order: &[u16], total: u64, out: &mut [u8])
     put_order(order, out);
 }
 
-// The record of a fork string.
+// The record of a fork string. That k is small is asked here and below as a fact of its own: a struct of k alone would say no more, and the lengths
+// are asked beside it anyway.
 fn put_forks(k: u16, bits: &[u8], out: &mut [u8])
     requires { (k ≤ max_k) × (byte_count (2 ^ k) ≤ length bits.now) × (end_place (2 ^ k) ≤ length out.old) }
     ensures { out.new ≡ put out.old (forks_place (2 ^ k)) (forks_bytes (take (byte_count (2 ^ k)) bits.now)) }

@@ -40,14 +40,6 @@ unfolding stops_below
 below_all n [] h = refl
 below_all n (a ∷ o) h = rw (lt-ltb a n (h 0 (omega arith))) (below_all n o (λ p b. h (suc p) (omega arith)))
 
--- one that is not is enough
-pub below-not : (n : ℕ) (o : List ℕ) (p : ℕ) → p < length o → n ≤ get_or o p 0 → stops_below n o ≡ false
-below-not n o p b h = go (stops_below n o) refl
-  where
-    go : (t : Bool) → stops_below n o ≡ t → stops_below n o ≡ false
-    go true e = absurd (omega (arith, below_each n o e p b))
-    go false e = e
-
 -- the test of all, as a chain has it
 pub stops_below-all : (n : ℕ) (o : List ℕ) → stops_below n o ≡ list_all (λ b. ltb b n) o
 unfolding stops_below
@@ -163,11 +155,6 @@ module _ (k : ℕ) (o : List ℕ) where
   pub judge-stop : stops_below (2 ^ k) o ≡ false → judge_order k o ≡ refuses no_such_stop
   unfolding judge_order
   judge-stop h = rw h
-
-  -- 10 where all are, and no set gives the order
-  pub judge-order : stops_below (2 ^ k) o ≡ true → is_allowed k o ≡ false → judge_order k o ≡ refuses not_allowed
-  unfolding judge_order
-  judge-order h a = rw (h, a)
 
   -- itself otherwise
   pub judge-good : stops_below (2 ^ k) o ≡ true → is_allowed k o ≡ true → judge_order k o ≡ gives o

@@ -1,15 +1,15 @@
 -- Laws of the calls: what each promises after a refusal and after success, and what a caller learns from its answer.
 use mathlib.Core.Path.{◌≡◌, refl, sym, ap, ◌∙◌}
-use mathlib.Core.Bool.{true, false}
+use mathlib.Core.Bool.{true}
 use mathlib.Core.List.{List}
-use Prim.Native.Nat.{ℕ, ◌*◌, ◌^◌, ◌≤◌, ◌<◌}
+use Prim.Native.Nat.{ℕ, ◌*◌, ◌^◌, ◌≤◌}
 use native.Mathlib.Omega.{arith}
 use lib.Dec.{leb, eqb}
 use lib.ListN.{length}
-use borrow.Author.Tests.{le-leb, lt-leb, leb-true}
+use borrow.Author.Tests.{le-leb, leb-true}
 use Rattle.std.specs.Prelude.{Result, Ok, Err}
 use Rattle.base.specs.declared.Refusal.{Refusal}
-use Rattle.base.specs.Refusal.{refusal_number, wrong_k, wrong_size, wrong_forks}
+use Rattle.base.specs.Refusal.{refusal_number, wrong_k, wrong_size}
 use Rattle.base.specs.Outcome.{Outcome, gives, refuses, giving, done, said, number, over}
 use Rattle.base.specs.Size.{max_k, stop_count}
 use Rattle.base.proofs.Size.{stop_count-pow}
@@ -22,7 +22,7 @@ use Rattle.orders.specs.Lent.{order_in, forks_in, order_fits, bits_fit, table_fi
 use Rattle.orders.specs.ForkBits as bits
 use Rattle.orders.specs.OrderOfBits as order
 use Rattle.orders.specs.OrderTotal as sum
-use Rattle.orders.proofs.Bits.{judge-forks, judge-outside, judged-forks}
+use Rattle.orders.proofs.Bits.{judge-forks, judged-forks}
 use Rattle.orders.proofs.Lent.{lent-contents, lent-judged, lent_gives, lent_same}
 use Rattle.orders.proofs.Size.{byte_count-is}
 
@@ -73,14 +73,6 @@ module _ (k : ℕ) (order before : List ℕ) where
   pub bits-refused : (r : Refusal) → refuses (refusal_number r) ≡ done (bits.fork_bits k order (length before)) → bits.BitsAreMade k order before before (Err r)
   bits-refused r e = let o = done-refused (bits.fork_bits k order (length before)) (refusal_number r) e in record { said = e; left = rw o }
 
-  -- fork bits that are made
-  pub bits-made : (afterwards : List ℕ) → number (bits.fork_bits k order (length before)) ≡ 0 → afterwards ≡ over (bit_string k (forks_of k (order_in k order))) before
-      → bits.BitsAreMade k order before afterwards (Ok tt)
-  bits-made afterwards e w =
-      let j = bits-judged k order (length before) e in
-      let o = bits-given k order (length before) j.0 j.1 in
-      record { said = rw o; left = rw o w }
-
   -- for callers: what an answer tells, and when the bits are made
   module _ (afterwards : List ℕ) where
     pub bits-told : (n : Refusal) → bits.BitsAreMade k order before afterwards (Err n) → bits.fork_bits k order (length before) ≡ refuses (refusal_number n)
@@ -101,29 +93,12 @@ module _ (k : ℕ) (order before : List ℕ) where
 -- ---- the order of fork bits
 
 module _ (k : ℕ) (string : List ℕ) (room : ℕ) where
-  -- which test decides
-  pub order-k : max_k < k → order.order_of_bits k string room ≡ refuses wrong_k
-  unfolding order.order_of_bits
-  order-k h = rw (lt-leb _ _ h)
-
-  pub order-string : k ≤ max_k → length string < byte_count (2 ^ k) → order.order_of_bits k string room ≡ refuses wrong_size
-  unfolding order.order_of_bits
-  order-string h s = rw (le-leb _ _ h, lt-leb _ _ s)
-
-  pub order-room : k ≤ max_k → byte_count (2 ^ k) ≤ length string → room < 2 ^ k → order.order_of_bits k string room ≡ refuses wrong_size
-  unfolding order.order_of_bits
-  order-room h s r = rw (le-leb _ _ h, le-leb _ _ s, lt-leb _ _ r)
-
   -- what is known of an accepted string
   pub record JudgedForks : Type 0 where
     pub small : k ≤ max_k
     pub long : byte_count (2 ^ k) ≤ length string
     pub places : 2 ^ k ≤ room
     pub only : only_forks k (forks_in k string) ≡ true
-
-  pub order-outside : k ≤ max_k → byte_count (2 ^ k) ≤ length string → 2 ^ k ≤ room → only_forks k (forks_in k string) ≡ false → order.order_of_bits k string room ≡ refuses wrong_forks
-  unfolding order.order_of_bits
-  order-outside h s r f = rw (le-leb _ _ h, le-leb _ _ s, le-leb _ _ r, judge-outside k (forks_in k string) f)
 
   pub order-given : JudgedForks → order.order_of_bits k string room ≡ gives (order_of k (forks_in k string))
   unfolding order.order_of_bits

@@ -1,6 +1,6 @@
 -- Laws of the call that exchanges forks: what it promises after a refusal and after success, and what a caller learns from its answer.
 use mathlib.Core.Path.{◌≡◌, sym, ap, ◌∙◌}
-use mathlib.Core.Bool.{Bool, true, false, ◌&&◌}
+use mathlib.Core.Bool.{Bool, true, ◌&&◌}
 use mathlib.Core.List.{List}
 use Prim.Native.Nat.{ℕ, ◌^◌, ◌≤◌}
 use lib.Dec.{leb}
@@ -8,7 +8,7 @@ use lib.ListN.{length}
 use borrow.Author.Tests.{le-leb, leb-true}
 use Rattle.std.specs.Prelude.{Result, Ok, Err}
 use Rattle.base.specs.declared.Refusal.{Refusal}
-use Rattle.base.specs.Refusal.{refusal_number, wrong_forks}
+use Rattle.base.specs.Refusal.{refusal_number}
 use Rattle.base.specs.Outcome.{Outcome, gives, refuses, giving, done, number, over}
 use Rattle.base.specs.Size.{stop_count}
 use Rattle.base.proofs.Bools.{both}
@@ -17,7 +17,7 @@ use Rattle.base.proofs.Size.{stop_count-pow}
 use Rattle.orders.specs.Bits.{byte_count, only_forks, judge_forks}
 use Rattle.orders.specs.Lent.{order_in, forks_in, order_fits, bits_fit, lent_order, JudgedOrder}
 use Rattle.orders.specs.Exchange.{exchange, exchange_lent, OrderIsExchanged}
-use Rattle.orders.proofs.Bits.{judge-forks, judge-outside, judged-forks}
+use Rattle.orders.proofs.Bits.{judge-forks, judged-forks}
 use Rattle.orders.proofs.Lent.{lent-judged, lent_gives, lent_same}
 use Rattle.orders.proofs.Calls.{JudgedForks, done-number, done-refused, only-ok}
 
@@ -46,20 +46,12 @@ module _ (k : ℕ) (order bits : List ℕ) (room : ℕ) where
   unfolding exchange_lent
   set-decides e = let j = lent-judged k order others e in rw (lent_gives k order others j.0 j.1)
 
-  -- which test decides
-  pub exchange-lent : (n : ℕ) → refuses n ≡ done order_judged → refuses n ≡ done (exchange_lent k order bits room)
-  unfolding exchange_lent
-  exchange-lent n e = rw (done-refused order_judged n e)
-
-  pub exchange-outside : number order_judged ≡ 0 → only_forks k (forks_in k bits) ≡ false → exchange_lent k order bits room ≡ refuses wrong_forks
-  exchange-outside e f = set-decides e ∙ rw (judge-outside k (forks_in k bits) f)
-
   -- what is known of an accepted call
   pub record JudgedExchange : Type 0 where
     pub stops : JudgedOrder k order
     pub forks : JudgedForks k bits room
 
-  pub exchange-accepts : number order_judged ≡ 0 → only_forks k (forks_in k bits) ≡ true → JudgedExchange
+  exchange-accepts : number order_judged ≡ 0 → only_forks k (forks_in k bits) ≡ true → JudgedExchange
   exchange-accepts e f =
       let j = exchange-order e in
       record { stops = j.0; forks = record { small = j.0.small; long = j.1; places = j.2; only = f } }
@@ -83,11 +75,6 @@ module _ (k : ℕ) (order bits before : List ℕ) where
   -- an exchange that is refused
   pub exchange-refused : (r : Refusal) → refuses (refusal_number r) ≡ done (exchange_lent k order bits (length before)) → OrderIsExchanged k order bits before before (Err r)
   exchange-refused r e = let o = done-refused (exchange_lent k order bits (length before)) (refusal_number r) e in record { said = e; left = rw o }
-
-  -- and one that is made
-  pub exchange-made : (afterwards : List ℕ) → JudgedExchange k order bits (length before) → afterwards ≡ over (exchange k (order_in k order) (forks_in k bits)) before
-      → OrderIsExchanged k order bits before afterwards (Ok tt)
-  exchange-made afterwards j w = let o = exchange-given k order bits (length before) j in record { said = rw o; left = rw o w }
 
   -- for callers: what an answer tells, and when the exchange is made
   module _ (afterwards : List ℕ) where

@@ -24,11 +24,6 @@ module _ (k : ℕ) (order : List ℕ) (fits : Bool) where
   unfolding lent_order
   lent-k h = rw (lt-leb _ _ h)
 
-  -- then the order's length,
-  pub lent-short : k ≤ max_k → length order < 2 ^ k → lent_order k order fits ≡ refuses wrong_size
-  unfolding lent_order
-  lent-short h s = rw (le-leb _ _ h, lt-leb _ _ s)
-
   -- and the other lengths
   pub lent-others : k ≤ max_k → fits ≡ false → lent_order k order fits ≡ refuses wrong_size
   unfolding lent_order short

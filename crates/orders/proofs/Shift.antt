@@ -85,3 +85,6 @@ follow-near p a b h = rw (lt-leb _ _ h)
 pub follow-far : (p a b : ℕ) → reach p ≤ bit_xor a b → ltb (bit_xor a b - reach p) (reach p) ≡ may_follow p a b
 unfolding may_follow
 follow-far p a b h = rw (le-leb _ _ h) (ltb-twice (bit_xor a b) (reach p) h)
+
+-- what code goes by for the reach of a place
+pub ruleset reaches = (reach_of-pos, reach-pos, reach-lt)

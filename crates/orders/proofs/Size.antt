@@ -4,6 +4,7 @@ use Prim.Native.Nat.{ℕ, ◌*◌, ◌≤◌, ◌^◌}
 use native.Mathlib.Nat.{mul-le-mul}
 use native.Mathlib.Decide.{dec_le}
 use native.Mathlib.Omega.{arith}
+use lib.Seq.{length-take-le}
 use Rattle.base.specs.Size.{max_k, stop_count}
 use Rattle.orders.specs.Bits.{byte_count}
 use Rattle.base.proofs.Size.{stop_count-pow, stop_count-none, pow-le-1024}
@@ -24,3 +25,6 @@ pub stop_count-square : (k n : ℕ) → n ≡ stop_count k → n * n ≤ 1048576
 stop_count-square k n e =
     let h : n ≤ 1024 = omega (arith, stop_count-le k) in
     mul-le-mul {n₁ = n} {m₁ = n} {n₂ = 1024} {m₂ = 1024} h h
+
+-- what code goes by for its bounds
+pub ruleset sizes = (stop_count-pow, stop_count-le, pow-le-1024, byte_count-is, length-take-le)

@@ -1,5 +1,5 @@
 -- The way down from the root by the bits of a string.
-use mathlib.Core.Path.{◌≡◌, refl, sym, ap, ◌∙◌}
+use mathlib.Core.Path.{◌≡◌, sym, ap, ◌∙◌}
 use mathlib.Core.Bool.{true}
 use mathlib.Core.List.{List}
 use Prim.Native.Nat.{ℕ, zero, suc, ◌+◌, ◌*◌, ◌-◌, ◌/◌, ◌%◌, ◌^◌, ◌≤◌, ◌<◌}
@@ -29,12 +29,6 @@ pub record Way (k F p d v : ℕ) : Type 0 where
   pub low : 2 ^ (k - d) ≤ v
   pub high : v < 2 * 2 ^ (k - d)
   pub rest : down F p d v ≡ down F p k 1
-
--- at the root
-pub way-root : (k F p : ℕ) → Way k F p k 1
-way-root k F p =
-    let e : k - k ≡ 0 = omega arith in
-    record { above = omega arith; low = rw e (omega arith); high = rw e (omega arith); rest = refl }
 
 -- a fork above the stops is a fork of the tree
 pub way-fork : (k F p d v : ℕ) → 1 ≤ d → Way k F p d v → v < 2 ^ k

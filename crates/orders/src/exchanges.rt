@@ -19,7 +19,8 @@ fn long_enough(k: u16, bytes: usize, places: usize) -> bool
     byte_count(k) <= bytes && stop_count(k) <= places
 }
 
-// Judges whether a string's forks can be exchanged in an order and written to `room` places.
+// Judges whether a string's forks can be exchanged in an order and written to `room` places. k and the order are the call's own parameters: they
+// are a `LentOrder` where they are judged.
 pub fn judge_exchange(k: u16, order: &[u16], bits: &[u8], room: usize) -> Result<(), Refusal>
     ensures { said result ≡ done (exchange_lent k order.now bits.now room) }
 {

@@ -56,8 +56,8 @@ impl<'a> ForkString<'a> {
         ensures { (result ≡ stop_in self.entry.k (forks_in self.entry.k self.entry.bytes.now) p) × (result < 2 ^ self.entry.k) }
     {
         let mut v = 1;
-        for depth in 0..self.k {
-            v = self.go_down(p, self.k - 1 - depth, v);
+        for d in (0..self.k).rev() {
+            v = self.go_down(p, d, v);
         }
         v - stop_count(self.k)
     }
@@ -98,6 +98,7 @@ fn raise(bits: &mut [u8], v: usize)
 }
 
 // Sets the bit of the lowest fork above places p - 1 and p if bit t of the stop in p is 0, which says that it is exchanged.
+#[tactic(auto, using(crate::proofs::Size::sizes, crate::proofs::Shift::reaches))]
 fn mark_fork(k: u16, p: usize, stop: usize, bits: &mut [u8])
     requires { (k ≤ max_k) × (0 < p) × (p < 2 ^ k) × (stop < 2 ^ k) × (byte_count (2 ^ k) ≤ length bits.old) }
     ensures { bits.new ≡ marked k p stop bits.old }
@@ -115,7 +116,8 @@ pub fn write_bits(k: u16, order: &[u16], bits: &mut [u8])
     ensures { bits.new ≡ over (bit_string k (forks_of k (order_in k order.now))) bits.old }
 {
     bits[..byte_count(k)].fill(0);
-    for p in 1..stop_count(k) {
-        mark_fork(k, p, order[p] as usize, bits);
+    let n = stop_count(k);
+    for (p, stop) in (1..n).zip(order[1..].iter()) {
+        mark_fork(k, p, usize::from(*stop), bits);
     }
 }

@@ -31,8 +31,8 @@ impl<'a> LentOrder<'a> {
         requires { stops_below (2 ^ self.k) (order_in self.k self.stops.now) ≡ true }
         ensures { result ≡ is_allowed self.entry.k (order_in self.entry.k self.entry.stops.now) }
     {
-        for p in 1..stop_count(self.k) {
-            if !may_follow(p, self.stops[p - 1], self.stops[p]) {
+        for (p, stops) in (1..stop_count(self.k)).zip(self.stops.windows(2)) {
+            if !may_follow(p, stops[0], stops[1]) {
                 return false;
             }
         }

@@ -3,7 +3,7 @@
 // No public function has a `requires`. A refusal touches no lent buffer; after success an output holds the result first and is
 // untouched beyond.
 
-#![tactic(auto)]
+#![tactic(auto, using(crate::proofs::Size::sizes), unfolding(crate::specs::Bits::only_forks, crate::specs::Bits::raised, crate::specs::Bits::marked, crate::specs::Lent::lent_order, crate::specs::Allowed::judge_order, crate::specs::OrderOfBits::order_of_bits, crate::specs::Bits::judge_forks, crate::specs::Exchange::exchange_lent, crate::specs::ForkBits::fork_bits, crate::specs::OrderTotal::order_total))]
 
 mod exchanges;
 mod forks;

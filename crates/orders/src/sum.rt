@@ -20,9 +20,10 @@ pub fn sum_moves(k: u16, order: &[u16], table: &[u32]) -> u64
     ensures { result ≡ total (entry (stop_count k) table.now) (take (stop_count k) order.now) }
 {
     let n = stop_count(k);
+    let count = n.min(order.len());
     let mut sum: u64 = 0;
-    for p in 1..n.min(order.len()) {
-        sum += entry_at(n, table, order[p - 1], order[p]);
+    for stops in order[..count].windows(2) {
+        sum += entry_at(n, table, stops[0], stops[1]);
     }
     sum
 }

@@ -61,10 +61,6 @@ body-unformed bytes version k n e = form-refused version k n (read_body version 
 
 -- ---- a body that was judged
 
--- a number that is not 0 is its refusal
-pub body-bad : (bytes : List ℕ) (version k n : ℕ) → n ≡ number (body_after_head bytes version k) → (n ≡ 0 → ⊥) → body_after_head bytes version k ≡ refuses n
-body-bad bytes version k n e f = refused (body_after_head bytes version k) n e f
-
 -- what a body is whose number is 0
 pub record JudgedBody (bytes : List ℕ) (version k : ℕ) : Type 0 where
   pub known : known_version version ≡ true

@@ -11,18 +11,18 @@ use lib.ListN.{length, drop}
 use borrow.Author.Tests.{le-leb, lt-leb, leb-true, not-true}
 use Rattle.base.specs.declared.Refusal.{Refusal}
 use Rattle.base.specs.Outcome.{Outcome, gives, refuses, need, and_then, done, said, number, over}
-use Rattle.base.proofs.Outcome.{passed, number-first, done-good, done-refused}
+use Rattle.base.proofs.Outcome.{passed, done-good, done-refused}
 use Rattle.base.specs.Lists.{tabulate}
-use Rattle.base.proofs.Lists.{length-tabulate, tabulate-cong}
+use Rattle.base.proofs.Lists.{tabulate-cong}
 use Rattle.std.specs.List.{list_any, range_with_len}
 use Rattle.stop.specs.declared.Stop.{Stop}
 use Rattle.stop.specs.Lent.{LentStops, first_stops, judge_lent}
-use Rattle.stop.proofs.Lent.{judged-gives, length-first}
+use Rattle.stop.proofs.Lent.{judged-gives}
 use Rattle.path.specs.Path.{known_version, path_size, body_after_head, stop_place, stop_in, stops_in}
 use Rattle.path.specs.Written.{loses_field, loses_any, path_bytes, write_stops, write_path, rewrite_after_head, BytesAreWritten}
 use Rattle.path.specs.Local.{judge_form}
 use Rattle.path.proofs.FormLaws.{form-refused, form-good}
-use Rattle.path.proofs.JudgeLaws.{JudgedBody, body-good}
+use Rattle.path.proofs.JudgeLaws.{JudgedBody}
 use Rattle.path.proofs.PlaceLaws.{place-within}
 use Rattle.path.proofs.StopFields.{field-kept, newer-field}
 use Rattle.path.proofs.StopLaws.{within-stop}
@@ -117,16 +117,6 @@ pub record Writable (k size room : ℕ) (o : Outcome (List ℕ)) (bytes : List �
   pub enough : size ≤ room
   pub same : o ≡ gives bytes
 
-pub writable : (version k : ℕ) (lent : LentStops) (room : ℕ) → number (write_path version k lent room) ≡ 0 → Writable k (path_size version k) room (write_path version k lent room) (path_bytes version k (first_stops (2 ^ k) lent))
-unfolding write_path
-writable version k lent room z =
-    let first = passed (known_version version) 4 _ (omega arith) z in
-    let second = passed (leb k 10) 5 _ (omega arith) first.goes_on in
-    let judged = number-first (judge_lent (2 ^ k) lent) (write_stops version k room) second.goes_on in
-    let stops : judge_lent (2 ^ k) lent ≡ gives (first_stops (2 ^ k) lent) = judged-gives (2 ^ k) lent judged in
-    let w = stops-written version k room (first_stops (2 ^ k) lent) (length-first (2 ^ k) lent) (rw stops at second.goes_on) in
-    record { small = leb-true _ _ second.holds; long = length-written version k _ (length-first (2 ^ k) lent); enough = w.enough; same = first.same ∙ second.same ∙ rw stops w.same }
-
 -- ---- from path bytes
 
 module _ (bytes : List ℕ) (version k wanted room : ℕ) where
@@ -144,21 +134,6 @@ module _ (bytes : List ℕ) (version k wanted room : ℕ) where
     pub rewrite-output : gives tt ≡ judge_form wanted k → rewrite_after_head bytes version k wanted room ≡ write_stops wanted k room (stops_in version (2 ^ k) bytes)
     unfolding rewrite_after_head
     rewrite-output e = rw (body.stops, (form-good wanted k e).0)
-
-  -- a rewriting whose number is 0 found a good body
-  pub rewrite-judged : number (rewrite_after_head bytes version k wanted room) ≡ 0 → JudgedBody bytes version k
-  unfolding rewrite_after_head
-  rewrite-judged z = body-good bytes version k (number-first (body_after_head bytes version k) (λ ss. need (known_version wanted) 4 (write_stops wanted k room ss)) z)
-
-  pub rewritable : number (rewrite_after_head bytes version k wanted room) ≡ 0 → Writable k (path_size wanted k) room (rewrite_after_head bytes version k wanted room) (path_bytes wanted k (stops_in version (2 ^ k) bytes))
-  unfolding rewrite_after_head
-  rewritable z =
-      let ss = stops_in version (2 ^ k) bytes in
-      let body = rewrite-judged z in
-      let first = passed (known_version wanted) 4 (write_stops wanted k room ss) (omega arith) (rw body.stops at z) in
-      let many : length ss ≡ 2 ^ k = length-tabulate (2 ^ k) (λ i. stop_in version i bytes) in
-      let w = stops-written wanted k room ss many first.goes_on in
-      record { small = body.small; long = length-written wanted k ss many; enough = w.enough; same = rw body.stops (first.same ∙ w.same) }
 
 -- ---- what the calls promise
 

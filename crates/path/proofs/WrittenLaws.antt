@@ -15,7 +15,7 @@ use Rattle.records.specs.Put.{put}
 use Rattle.records.specs.Record.{record_bytes, record_length, later_fields}
 use Rattle.records.proofs.FieldLaws.{length-bytes_of}
 use Rattle.records.proofs.LengthLaws.{path-length, end-length}
-use Rattle.records.proofs.PutLaws.{put-fits, put_front, put_three}
+use Rattle.records.proofs.PutLaws.{put-fits, put_front, put_two}
 use Rattle.records.proofs.RecordLaws.{length-record_bytes}
 use Rattle.records.proofs.Versions.{Layout, plain, blended, dwelling, layout}
 use Rattle.stop.specs.declared.Stop.{Stop}
@@ -108,16 +108,17 @@ put-over s v h = put_front s v h
 put_whole : (s v : List ℕ) → length v ≡ length s → put s 0 v ≡ v
 put_whole s v e = put-over s v (omega arith) ∙ over-whole v s e
 
--- the parts of a stop's record, put one after the other into a part of its size
-pub stop-put : (version : ℕ) (s : Stop) (part t u r : List ℕ) → length part ≡ stop_size version → t ≡ put part 0 (bytes_of 2 (record_length 2 version 0) ++ bytes_of 2 2) → u ≡ put t 4 (point_bytes s.at) → r ≡ put u 16 (pace_bytes version s.speed s.blend s.dwell) → r ≡ stop_bytes version s
-stop-put version s part t u r size et eu er =
+-- the parts of a stop's record: the start and the point put into 16 bytes, the pace into the others
+pub stop-put : (version : ℕ) (s : Stop) (front rest t u r : List ℕ) → length front ≡ 16 → 16 + length rest ≡ stop_size version → t ≡ put front 0 (bytes_of 2 (record_length 2 version 0) ++ bytes_of 2 2) → u ≡ put t 4 (point_bytes s.at) → r ≡ put rest 0 (pace_bytes version s.speed s.blend s.dwell) → u ++ r ≡ stop_bytes version s
+stop-put version s front rest t u r size size_rest et eu er =
     let start = bytes_of 2 (record_length 2 version 0) ++ bytes_of 2 2 in
     let pace = pace_bytes version s.speed s.blend s.dwell in
     let first : length start ≡ 4 = rw (length-append, length-bytes_of, length-bytes_of) in
     let second : length (point_bytes s.at) ≡ 12 = length-point s.at in
     let third : 16 + length pace ≡ stop_size version = length-pace version s.speed s.blend s.dwell in
-    put_three part 0 start (point_bytes s.at) pace t u r 4 16 (omega arith) (omega arith) (omega arith) et eu er
-    ∙ rw (← stop-parts version s) (put_whole part (stop_bytes version s) (length-stop_bytes version s ∙ sym size))
+    let eb : u ≡ start ++ point_bytes s.at = put_two front 0 start (point_bytes s.at) t u 4 (omega arith) (omega arith) et eu ∙ put_whole front (start ++ point_bytes s.at) (length-append start (point_bytes s.at) ∙ omega arith) in
+    let ep : r ≡ pace = er ∙ put_whole rest pace (omega arith) in
+    rw (eb, ep) (sym (stop-parts version s))
 
 -- a part of a buffer that was written whole is put at its place
 pub put-part : (s : List ℕ) (at size : ℕ) (v part : List ℕ) → at + size ≤ length s → length v ≡ size → part ≡ v → take at s ++ (part ++ drop (at + size - at) (drop at s)) ≡ put s at v

@@ -53,17 +53,12 @@ pub fn stop_size(version: u16) -> usize
 }
 
 impl PathBytes<'_> {
-    // Where the record of stop i begins. A place past the end of the bytes is as good as any other there; a stop number of 2^59 or more, whose
-    // place would not fit, always lies there.
+    // Where the record of stop i begins. A place past the end of the bytes is as good as any other there.
     fn place(self, i: usize) -> usize
         ensures { result ≡ min (stop_place self.entry.version i) (8 + length self.entry.bytes.now) }
     {
-        let past = HEAD_SIZE + self.bytes.len();
-        // The library's saturating product divides, which is slower.
-        if 0x0800_0000_0000_0000 <= i {
-            return past;
-        }
-        past.min(HEAD_SIZE + i * stop_size(self.version))
+        let before = i.saturating_mul(stop_size(self.version));
+        HEAD_SIZE + before.min(self.bytes.len())
     }
 
     // Stop i; of bytes that were not judged, zeros where its record does not lie within them.
@@ -101,7 +96,8 @@ impl PathBytes<'_> {
         word16(self.bytes, at) as usize == long && word16(self.bytes, at + 2) == Kind::Stop.number()
     }
 
-    // The refusal of the record of stop i: its own, or that of its fields.
+    // The refusal of the record of stop i: its own, or that of its fields. Called, and not part of the loop over the stops, it would take longer.
+    #[inline(always)]
     pub fn judge_stop(self, i: usize) -> Result<(), Refusal>
         ensures { said result ≡ done (read_stop self.entry.version (drop (stop_place self.entry.version i) self.entry.bytes.now)) }
     {

@@ -1,4 +1,6 @@
 // The records of a path put into bytes, each whole or not at all. Some functions have a `requires`: the module is private.
+//
+// The bytes and a place in them stay two parameters, as in `records`. The version goes with a stop or a k as a number: a struct of both would be made for one call.
 ghost use Rattle.std.specs.Prelude.{◌≡◌, [], ◌++◌, ◌+◌, ◌≤◌, length};
 ghost use Rattle.records.specs.Field.{bytes_of};
 ghost use Rattle.records.specs.Put.{put};
@@ -43,14 +45,16 @@ fn put_pace(out: &mut [u8], at: usize, version: u16, speed: u16, blend: u16, dwe
     }
 }
 
-// Writes the record of a stop to its own part of the output. The part's length is known, so no test of it is left in the compiled code.
+// Writes the record of a stop to its own part of the output. The start and the point are as long in each version: of a slice of so many bytes no test
+// is left in the compiled code.
 fn put_record(part: &mut [u8], version: u16, s: Stop)
     requires { length part.old ≡ stop_size version }
     ensures { part.new ≡ stop_bytes version s }
 {
-    put_start(part, 0, Kind::Stop, version);
-    put_point(part, 4, s.at);
-    put_pace(part, 16, version, s.speed, s.blend, s.dwell);
+    let (front, pace) = part.split_at_mut(16);
+    put_start(front, 0, Kind::Stop, version);
+    put_point(front, 4, s.at);
+    put_pace(pace, 0, version, s.speed, s.blend, s.dwell);
 }
 
 // Writes the record of a stop where there is room for it.

@@ -17,7 +17,8 @@ fn loses_any<S: StopSource>(source: S, count: usize, version: u16) -> bool
     (0..count).any(|i| loses_field(version, source.stop(i)))
 }
 
-// Writes the first 2^k stops of a source, which are good; `loses` says whether the version lacks a field of theirs that is not 0.
+// Writes the first 2^k stops of a source, which are good; `loses` says whether the version lacks a field of theirs that is not 0:
+// a fact of the source that each caller finds in its own way, and no choice of a step.
 fn write_stops<S: StopSource>(
     source: S,
     form: Form,

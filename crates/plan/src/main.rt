@@ -7,6 +7,7 @@
 
 use plan_output::ENOUGH_INPUT;
 
+// The text of `all_orders`, about another output: a program's entry has no parameters, and a generic one in a crate of its own would hold these lines once more.
 fn main() {
     let mut input = [0u8; ENOUGH_INPUT];
     let count = io::read_full(0, &mut input);

@@ -56,7 +56,7 @@ impl Output {
         }
     }
 
-    // The bytes of the output.
+    // The bytes of the output. One line, as of `all_orders_output`: the two types keep other facts of other sizes.
     pub fn as_bytes(&self) -> &[u8]
         ensures { result.now ≡ take self.now.count self.now.bytes }
     {

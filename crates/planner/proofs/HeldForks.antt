@@ -3,8 +3,8 @@
 use mathlib.Core.Path.{◌≡◌, refl, sym, ap, ap₂, ◌∙◌}
 use mathlib.Core.Bool.{Bool, true, false}
 use mathlib.Core.List.{List}
-use Prim.Native.Nat.{ℕ, zero, suc, ◌+◌, ◌*◌, ◌-◌, ◌/◌, ◌^◌, ◌≤◌, ◌<◌}
-use native.Mathlib.Nat.{mul-add-div_right, mul-le-mul_right, mul_comm, mul_assoc, le_of_mul-le-mul_right, lt_of_mul-lt-mul_right}
+use Prim.Native.Nat.{ℕ, zero, suc, ◌+◌, ◌*◌, ◌-◌, ◌/◌, ◌%◌, ◌^◌, ◌≤◌, ◌<◌}
+use native.Mathlib.Nat.{mul-add-div_right, mul-le-mul_left, mul-le-mul_right, mul-add, le_of_mul-le-mul_right, lt_of_mul-lt-mul_right}
 use native.Mathlib.Decide.{dec_lt}
 use native.Mathlib.Omega.{arith}
 use lib.ListN.{length}
@@ -42,16 +42,6 @@ use Rattle.planner.proofs.Written.{written-best}
 
 -- ---- the level of a fork
 
--- one level, and one more
-pub level-first : (fork : ℕ) → 2 * fork ≡ fork * 2 ^ (0 + 1)
-level-first fork = omega arith
-
-pub level-next : (fork level : ℕ) {below : ℕ} → below ≡ fork * 2 ^ (level + 1) → 2 * below ≡ fork * 2 ^ (level + 1 + 1)
-level-next fork level e = ap (λ x. 2 * x) e ∙ twice fork (2 ^ (level + 1)) ∙ ap (λ x. fork * x) (sym (pow-add 2 (level + 1) 1))
-  where
-    twice : (a b : ℕ) → 2 * (a * b) ≡ a * (b * 2 ^ 1)
-    twice a b = mul_comm 2 (a * b) ∙ mul_assoc a b 2
-
 -- 2^level is below 1,024
 pub level-small : {n fork level : ℕ} → n ≤ 1024 → 0 < fork → fork * 2 ^ level < n → level < 10
 level-small {n} {fork} {level} h pos l = go (dec_lt level 10)
@@ -62,6 +52,16 @@ level-small {n} {fork} {level} h pos l = go (dec_lt level 10)
         let tall : 2 ^ 10 ≤ 2 ^ level = pow_mono {i = 10} {j = level} (omega arith) in
         let wide : 1 * 2 ^ level ≤ fork * 2 ^ level = mul-le-mul_right (2 ^ level) pos in
         absurd (omega (arith, tall, wide, l, h))
+
+-- the level is that of the largest number by which the fork's own stays below n
+pub level-found : {n fork level : ℕ} → 0 < fork → fork < n → 2 ^ level ≤ (n - 1) / fork → (n - 1) / fork < 2 * 2 ^ level → LevelOf n fork level
+level-found {n} {fork} {level} pos h a b =
+    let x : ℕ = (n - 1) / fork in
+    let parts : fork * x + (n - 1) % fork ≡ n - 1 = omega arith in
+    let rest : (n - 1) % fork < fork = omega arith in
+    let low : fork * 2 ^ level ≤ fork * x = mul-le-mul_left fork a in
+    let high : fork * (x + 1) ≤ fork * 2 ^ (level + 1) = mul-le-mul_left fork (omega (arith, pow-add 2 level 1)) in
+    record { inside = omega arith; whole = omega (arith, mul-add fork x 1) }
 
 -- a state is 0 or 1
 pub state-small : (exchanged : Bool) {state : ℕ} → state ≡ state_of exchanged → state < 2

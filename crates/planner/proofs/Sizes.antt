@@ -3,9 +3,13 @@ use mathlib.Core.Path.{◌≡◌, ◌∙◌}
 use Prim.Native.Nat.{ℕ, ◌≤◌, ◌<◌}
 use lib.Pow.{pow_pos}
 use native.Mathlib.Omega.{arith}
-use Rattle.base.proofs.Size.{pow-le-1024}
+use Rattle.base.proofs.Size.{stop_count-pow, pow-le-1024}
 use Rattle.rows.specs.Row.{TwoRows}
+use Rattle.rows.proofs.Table.{square-small}
 use Rattle.planner.specs.Method.{LentSizes}
+
+-- how many stops there are, for the tests of a call
+pub ruleset counts = (stop_count-pow, pow-le-1024, square-small)
 
 module _ {n a b c : ℕ} (s : LentSizes n a b c) where
   -- at most 1,024 stops

@@ -13,7 +13,7 @@ use Rattle.rows.specs.Pass.{AlignedBlock, PassReady, RowHolds}
 use Rattle.rows.proofs.Blocks.{pow-half}
 use Rattle.planner.specs.Method.{stop_before, HoldsStops, LentSizes, LastReached, MiddleFixed}
 use Rattle.planner.proofs.Halving.{base-follows, block_in, whole-block, pivot-found}
-use Rattle.planner.proofs.Sizes.{sizes-pos, sizes-rows}
+use Rattle.planner.proofs.Sizes.{sizes-small, sizes-pos, sizes-rows}
 
 -- the stop before is a stop
 before-below : {n : ℕ} {o : List ℕ} (left : ℕ) → 0 < n → left ≤ n → HoldsStops n o → stop_before o left < n
@@ -23,6 +23,11 @@ before-below (suc l) pos h s = s.below l (omega arith)
 -- two halves make a block
 pub halves-size : {m half : ℕ} → 0 < m → half ≡ 2 ^ (m - 1) → half + half ≡ 2 ^ m
 halves-size {m} h e = omega (arith, e, pow-half m h)
+
+-- and with it fit the places
+pub halves-fit : {n order totals pivots left m half : ℕ} → LentSizes n order totals pivots → 0 < m → AlignedBlock n left m → half ≡ 2 ^ (m - 1)
+    → (half + half ≡ 2 ^ m) × (left + 2 ^ m ≤ n) × (n ≤ 1024)
+halves-fit z some a h = (halves-size some h, a.inside, sizes-small z)
 
 -- the block of stops around the last place's stop, and the stop before the block of places
 pub record Around (n : ℕ) (o : List ℕ) (left m base before : ℕ) : Type 0 where

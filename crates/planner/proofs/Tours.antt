@@ -96,10 +96,6 @@ held_more {n} {k} {table} {e} {v} {held} {r} h w small q = record {
     go true = small
     go false = h.below
 
--- the same for a number e that is known to be n
-pub held_at : {n k e : ℕ} {table : List ℕ} {held : Choice} → e ≡ n → EndHeld n k table e held → EndHeld n k table n held
-held_at {n} {k} {table = table} {held} e h = subst (λ x. EndHeld n k table x held) e h
-
 -- the last stop that is held ends the wanted tour
 pub held-end : {n k l : ℕ} {table : List ℕ} {held : Choice} → TourSizes n k l → EndHeld n k table n held → TourEnd k (entry n table) held.total held.stop
 held-end {n} {k} {l} {table} {held} z h =

@@ -35,6 +35,11 @@ solve-more zero h = absurd (omega arith)
 solve-more (suc zero) h = absurd (omega arith)
 solve-more (suc (suc m)) h = let e : suc (suc m) - 1 ≡ suc m = omega arith in rw e (omega arith)
 
+-- so the sum of what they weigh is that of the block, and fits 64 bits
+pub solve-sum : {m a b c : ℕ} → 1 < m → m ≤ 10 → a ≡ pass_weighings m → b ≡ solve_weighings (m - 1) → c ≡ solve_weighings (m - 1)
+    → (a + b + c ≡ solve_weighings m) × (solve_weighings m < 1099511627776)
+solve-sum {m} large few d e f = (omega (arith, d, e, f, solve-more m large), omega (arith, solve-few m few, pow-le-1024 m few))
+
 -- a block of two places weighs nothing
 pub solve-two : {m : ℕ} → m ≡ 1 → 0 ≡ solve_weighings m
 unfolding solve_weighings
@@ -50,6 +55,13 @@ pub plan-more : (k : ℕ) → 0 < k → pass_weighings k + solve_weighings (k - 
 unfolding plan_weighings
 plan-more zero h = absurd (omega arith)
 plan-more (suc k) h = let e : suc k - 1 ≡ k = omega arith in rw e (omega arith)
+
+-- the same sum
+pub plan-sum : {k a b c : ℕ} → 0 < k → k ≤ 10 → a ≡ pass_weighings k → b ≡ solve_weighings (k - 1) → c ≡ solve_weighings (k - 1)
+    → (a + b + c ≡ plan_weighings k) × (plan_weighings k < 4398046511104)
+plan-sum {k} some few d e f =
+    let more = plan-more k some in
+    (omega (arith, d, e, f, more), omega (arith, more, pass-few k few, solve-few (k - 1) (omega (arith, few)), pow-le-1024 (k - 1) (omega (arith, few))))
 
 -- of one stop
 pub plan-one : {k : ℕ} → k ≡ 0 → 0 ≡ plan_weighings k

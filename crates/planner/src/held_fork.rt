@@ -5,19 +5,12 @@ ghost use Rattle.planner.specs.HeldFork.{LevelOf, HoldsFork};
 
 use rows::Held;
 
-// The level of a fork of n stops, 2^level of which are on each of its sides.
+// The level of a fork of n stops, 2^level of which are on each of its sides: the fork's number times 2^level is still below n.
 fn level(n: usize, fork: usize) -> u32
     requires { (n ≤ 1024) × (0 < fork) × (fork < n) }
     ensures { (result < 10) × LevelOf n fork result }
 {
-    let mut level = 0;
-    let mut below = 2 * fork;
-    // A number is doubled here; a `for` over the levels would need an answer for a level that is not found, and is no plainer.
-    while below < n {
-        level += 1;
-        below = 2 * below;
-    }
-    level
+    ((n - 1) / fork).ilog2()
 }
 
 // The fork as it is held, and none where its number is 0.

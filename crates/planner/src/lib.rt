@@ -3,6 +3,7 @@
 // No public function has a `requires`. The contract of `plan` cites `specs/Plan.antt` and, through it, the order that is wanted by
 // plain enumeration. The private module `halve` holds the method, halving the places by recursion, for any costs by place; the rows of best
 // totals are made by the crate `rows`. `plan` is the instance whose costs come from a table. `totals` and `pivots` stay two parameters, as in `rows` and for its reason.
+// So each function that takes them asks for their lengths. `n` and `table` of a tour stay two as well: each last stop makes costs of its own from them.
 
 #![tactic(auto)]
 
@@ -41,6 +42,7 @@ pub struct Foretold {
 
 // Whether these lengths will do: refused are k above 10, and then a table not n² long or a lent buffer too short. The lengths stay five numbers: a struct of them would be
 // made at each call only to be taken apart here, and is no plainer.
+#[tactic(auto, unfolding(crate::specs::Plan::plan_room, crate::specs::Plan::plan_fits), using(crate::proofs::Sizes::counts))]
 pub fn judge_lengths(
     k: u16,
     table: usize,
@@ -90,6 +92,7 @@ pub fn plan(
 }
 
 // Whether the lengths will do where places cost extra: as above, and then a second table n² long too.
+#[tactic(auto, unfolding(crate::specs::Places::places_room), using(crate::proofs::Sizes::counts))]
 fn judge_places(
     k: u16,
     table: usize,
@@ -138,6 +141,7 @@ pub fn plan_places(
 }
 
 // Whether the lengths of a tour will do: k is at most 7, and then as above.
+#[tactic(auto, unfolding(crate::specs::Tour::tour_room))]
 fn judge_tour(
     k: u16,
     table: usize,
@@ -207,6 +211,7 @@ pub fn plan_held(
 }
 
 // How many candidates a plan of 2^k stops weighs.
+#[tactic(auto, unfolding(crate::specs::Weighings::foretold_weighings))]
 fn weighings_for(k: u16) -> u64
     requires { k ≤ 10 }
     ensures { result ≡ foretold_weighings k }
@@ -221,6 +226,7 @@ fn weighings_for(k: u16) -> u64
 }
 
 // What a plan of 2^k stops takes, from k alone: 20n bytes of lent work space, and the weighings.
+#[tactic(auto, unfolding(crate::specs::Weighings::foretold), using(crate::proofs::Sizes::counts))]
 pub fn foretell(k: u16) -> Result<Foretold, Refusal>
     ensures { said result ≡ foretold k }
 {

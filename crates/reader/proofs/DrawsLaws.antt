@@ -105,14 +105,6 @@ draws-are bytes highest d = (drew bytes highest d).answer
 
 -- ---- draws from any cursor
 
-pub steps-zero : (bytes : List ℕ) (at version : ℕ) → steps_from bytes at version 0 ≡ step_at bytes at version
-unfolding steps_from
-steps-zero bytes at version = refl
-
-pub steps-suc : (bytes : List ℕ) (at version d : ℕ) → steps_from bytes at version (suc d) ≡ step_at bytes (steps_from bytes at version d).at (steps_from bytes at version d).version
-unfolding steps_from
-steps-suc bytes at version d = refl
-
 -- an answer that is no stop is given again by the next draw
 again-step : (bytes : List ℕ) (at version : ℕ) → is_stop (step_at bytes at version).draw ≡ false → step_at bytes (step_at bytes at version).at (step_at bytes at version).version ≡ step_at bytes at version
 again-step bytes at version e =

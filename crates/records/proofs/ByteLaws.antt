@@ -2,8 +2,8 @@
 use mathlib.Core.Path.{◌≡◌, refl, sym, ap, ◌∙◌}
 use mathlib.Core.Bool.{Bool, true, false}
 use mathlib.Core.List.{List, [], ◌∷◌, ◌++◌}
-use Prim.Native.Nat.{ℕ, zero, suc, ◌+◌, ◌*◌, ◌/◌, ◌%◌, ◌^◌, min}
-use native.Mathlib.Nat.{pow-zero, div-one, mul-one, mul_comm, add-zero, min-zero, zero-min, suc-min-suc, pow-suc, div-div-eq-div-mul}
+use Prim.Native.Nat.{ℕ, zero, suc, ◌+◌, ◌*◌, ◌/◌, ◌%◌, ◌^◌, ◌≤◌}
+use native.Mathlib.Nat.{pow-zero, div-one, mul-one, mul_comm, add-zero, pow-suc, div-div-eq-div-mul}
 use native.Mathlib.Numerals.{add-one}
 use native.Mathlib.Omega.{arith}
 use lib.Dec.{ltb}
@@ -49,10 +49,16 @@ zeros : (w : ℕ) → replicate {A = ℕ} w 0 ≡ tabulate w (λ i. 0)
 zeros zero = refl
 zeros (suc w) = ap (λ (l : List ℕ). 0 ∷ l) (zeros w)
 
-pub padded : (w : ℕ) (s : List ℕ) → take (min (length s) w) s ++ drop (min (length s) w) (replicate {A = ℕ} w 0) ≡ first_bytes w s
-padded zero s = rw min-zero
-padded (suc w) [] = rw zero-min (zeros (suc w))
-padded (suc w) (b ∷ s) = rw suc-min-suc (ap (λ (l : List ℕ). b ∷ l) (padded w s))
+pub part : (w : ℕ) (s : List ℕ) → length s ≤ w → s ++ drop (length s) (replicate {A = ℕ} w 0) ≡ first_bytes w s
+part w [] h = zeros w
+part zero (b ∷ s) h = absurd (omega arith)
+part (suc w) (b ∷ s) h = ap (λ (l : List ℕ). b ∷ l) (part w s (omega arith))
+
+-- all bytes of the width, where they are there
+pub whole : (w : ℕ) (s : List ℕ) → w ≤ length s → take w s ≡ first_bytes w s
+whole zero s h = refl
+whole (suc w) [] h = absurd (omega arith)
+whole (suc w) (b ∷ s) h = ap (λ (l : List ℕ). b ∷ l) (whole w s (omega arith))
 
 -- ---- two's complement
 

@@ -1,4 +1,6 @@
 // Fields: read from bytes and written to them, least byte first.
+//
+// The bytes and a place in them are two parameters, as of the slices' own methods: the place may lie anywhere, so a struct of both would promise nothing.
 ghost use Rattle.std.specs.Prelude.{◌≡◌, ◌++◌, take, drop};
 ghost use Rattle.records.specs.Field.{number_of, bytes_of, first_bytes, signed, unsigned};
 ghost use Rattle.records.specs.Put.{put};
@@ -15,9 +17,12 @@ fn field<const N: usize>(s: &[u8], at: usize) -> [u8; N]
     ensures { result ≡ first_bytes N (drop at s.now) }
 {
     let t = after(s, at);
-    let n = t.len().min(N);
+    // Copying what there is takes longer than taking a whole field.
+    if let Some(whole) = t.first_chunk() {
+        return *whole;
+    }
     let mut bytes = [0; N];
-    bytes[..n].copy_from_slice(&t[..n]);
+    bytes[..t.len()].copy_from_slice(t);
     bytes
 }
 

@@ -64,7 +64,7 @@ const LENGTHS: [[usize; 3]; 7] = [
 ];
 
 impl Kind {
-    // Its number.
+    // Its number, the discriminant, as `Refusal::number`.
     pub fn number(self) -> u16
         ensures { result ≡ kind_number self }
     {
@@ -87,7 +87,7 @@ impl Kind {
     }
 }
 
-// The same of a number; 0 for no kind.
+// The same of a number; 0 for no kind. A call takes any number, which a `Kind` would not.
 pub fn record_length(kind: u16, version: u16) -> usize
     ensures { result ≡ record_length kind version 0 }
 {
@@ -97,7 +97,7 @@ pub fn record_length(kind: u16, version: u16) -> usize
     }
 }
 
-// Whether a record of a kind and length stands at `at`, or the refusal.
+// Whether a record of a kind and length stands at `at`, or the refusal. The kind may be any number.
 #[tactic(auto, unfolding(crate::specs::Record::take_record, crate::specs::Record::is_due, crate::specs::Record::is_kind, crate::specs::Record::kind_said, crate::specs::Record::length_said))]
 pub fn judge_record(s: &[u8], at: usize, kind: u16, long: usize) -> Result<(), Refusal>
     ensures { said result ≡ done (take_record kind long (drop at s.now)) }

@@ -12,7 +12,7 @@ use Rattle.rows.specs.Costing.{Costing}
 use Rattle.rows.specs.Row.{next, along, last_row}
 use Rattle.rows.specs.Way.{three_on}
 use Rattle.rows.specs.Pass.{AlignedBlock, weighings}
-use Rattle.rows.proofs.Blocks.{trail-first, trail-second, trail-third, trail-same}
+use Rattle.rows.proofs.Blocks.{trail_first, trail_second, trail_third, trail-same}
 
 module _ (C : Costing) (early : Bool) (r : ℕ → Found ℕ) where
   -- one part of the places after the other
@@ -75,7 +75,7 @@ weighings-few size from (suc d) a b c =
 -- those of a leaf's places
 pub weighings-three : (size p : ℕ) → p % 4 ≡ 1 → weighings size p 3 ≡ 4 * size
 unfolding weighings reach
-weighings-three size p one = rw (add-zero, trail-first p one, trail-second p one, trail-third p one) (omega arith)
+weighings-three size p one = rw (add-zero, trail_first p one, trail_second p one, trail_third p one) (omega arith)
 
 -- those of a chunk's
 pub weighings-four : (size p t : ℕ) → p % 4 ≡ 0 → t ≡ trail p → weighings size p 4 ≡ 2 ^ t * size + 4 * size

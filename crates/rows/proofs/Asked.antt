@@ -1,6 +1,6 @@
 -- What a pass asks, and the tests that tell it.
 use mathlib.Core.Path.{◌≡◌, sym, ◌∙◌}
-use mathlib.Core.Bool.{Bool, true, false, cond}
+use mathlib.Core.Bool.{true, false, cond}
 use Prim.Native.Nat.{ℕ, zero, suc, ◌+◌, ◌*◌, ◌/◌, ◌%◌, ◌^◌, ◌≤◌, ◌<◌}
 use native.Mathlib.Nat.{div-add-mod', mul-mod_left}
 use native.Mathlib.Omega.{arith}
@@ -13,10 +13,6 @@ use Rattle.tree.proofs.Block.{may_follow-block, beside-block, beside-by-block, t
 use Rattle.rows.specs.Pass.{AlignedBlock, Tells}
 use Rattle.rows.proofs.Blocks.{in_block}
 
--- the test says yes
-pub tells-yes : {A : Type 0} → A → Tells true A
-tells-yes a = record { yes = λ e. a; no = λ e x. let z : ◌≡◌ {A = ℕ} 0 1 = cc in omega arith }
-
 -- the test says no
 pub tells-no : {A : Type 0} → (A → ⊥) → Tells false A
 tells-no h = record { yes = λ e. let z : ◌≡◌ {A = ℕ} 0 1 = cc in absurd (omega arith); no = λ e. h }
@@ -28,10 +24,6 @@ tells-equal x y f g = record { yes = λ e. f (eqb-true x y e); no = λ e a. eqb-
 -- or one is below the other
 pub tells-below : {A : Type 0} (x y : ℕ) → (x < y → A) → (A → x < y) → Tells (ltb x y) A
 tells-below x y f g = record { yes = λ e. f (ltb-true x y e); no = λ e a. let h = g a in omega (arith, ltb-false x y e) }
-
--- the same test for another fact
-pub tells-also : {A A' : Type 0} {b : Bool} → (A → A') → (A' → A) → Tells b A → Tells b A'
-tells-also f g t = record { yes = λ e. f (t.yes e); no = λ e x. t.no e (g x) }
 
 -- a block that starts at a multiple of its size is aligned
 pub aligned-made : {n start m : ℕ} → start + 2 ^ m ≤ n → start % 2 ^ m ≡ 0 → AlignedBlock n start m

@@ -80,17 +80,19 @@ module _ {n start m : ℕ} (a : AlignedBlock n start m) (two : 0 < m) where
   }
 
 -- where t is 0 an even stop and the next are beside each other
-pub beside-even : (b : ℕ) → b % 2 ≡ 0 → (beside_of b 0 ≡ b + 1) × (beside_of (b + 1) 0 ≡ b)
+pub beside_even : (b : ℕ) → b % 2 ≡ 0 → beside_of b 0 ≡ b + 1
 unfolding beside_of
-beside-even b e = (rw (div-one, mul-one) (omega (arith, xor-one b)), rw (div-one, mul-one) (omega (arith, xor-one (b + 1))))
+beside_even b e = rw (div-one, mul-one) (omega (arith, xor-one b))
+
+pub beside_odd : (b : ℕ) → b % 2 ≡ 0 → beside_of (b + 1) 0 ≡ b
+unfolding beside_of
+beside_odd b e = rw (div-one, mul-one) (omega (arith, xor-one (b + 1)))
 
 -- so are the pairs of four
 pub beside_none : (b : ℕ) → b % 4 ≡ 0 → (beside_of b 0 ≡ b + 1) × (beside_of (b + 1) 0 ≡ b) × (beside_of (b + 2) 0 ≡ b + 3) × (beside_of (b + 3) 0 ≡ b + 2)
 beside_none b e =
-    let low = beside-even b (omega arith) in
-    let high = beside-even (b + 2) (omega arith) in
     let top : b + 3 ≡ b + 2 + 1 = omega arith in
-    (low.0, low.1, rw top high.0, rw top high.1)
+    (beside_even b (omega arith), beside_odd b (omega arith), rw top (beside_even (b + 2) (omega arith)), rw top (beside_odd (b + 2) (omega arith)))
 
 -- where t is 1 the first two of four are beside the others
 beside-low : (b i : ℕ) → b % 4 ≡ 0 → b ≤ i → i < b + 2 → beside_of i 1 ≡ b + 2
@@ -142,16 +144,16 @@ trail-four p four h =
 
 -- the three places after it, from p on, have none, one and none
 module _ (p : ℕ) (one : p % 4 ≡ 1) where
-  pub trail-first : trail p ≡ 0
-  trail-first = trail-odd p (omega arith)
+  pub trail_first : trail p ≡ 0
+  trail_first = trail-odd p (omega arith)
 
-  pub trail-second : trail (p + 1) ≡ 1
-  trail-second =
+  pub trail_second : trail (p + 1) ≡ 1
+  trail_second =
       let half : (p + 1) / 2 ≡ 2 * (p / 4) + 1 = omega arith in
       trail-even (p + 1) (omega arith) (omega arith) ∙ ap suc (trail-odd ((p + 1) / 2) (rw half (omega arith)))
 
-  pub trail-third : trail (p + 2) ≡ 0
-  trail-third = trail-odd (p + 2) (omega arith)
+  pub trail_third : trail (p + 2) ≡ 0
+  trail_third = trail-odd (p + 2) (omega arith)
 
 -- a place inside an aligned block has the trailing zero bits of its number in the block
 pub trail-same : (a m d : ℕ) → 0 < d → d < 2 ^ m → trail (a * 2 ^ m + d) ≡ trail d

@@ -3,8 +3,7 @@
 use mathlib.Core.Path.{◌≡◌, sym, ap, subst, ◌∙◌}
 use mathlib.Core.Bool.{Bool}
 use mathlib.Core.List.{List}
-use Prim.Native.Nat.{ℕ, ◌+◌, ◌*◌, ◌-◌, ◌%◌, ◌^◌, ◌≤◌, ◌<◌}
-use native.Mathlib.Nat.{zero-add}
+use Prim.Native.Nat.{ℕ, ◌+◌, ◌-◌, ◌%◌, ◌^◌, ◌≤◌, ◌<◌}
 use native.Mathlib.Numerals.{add-one}
 use native.Mathlib.Omega.{arith}
 use Rattle.walks.specs.Best.{Found}
@@ -13,31 +12,17 @@ use Rattle.tree.specs.Block.{beside_of}
 use Rattle.rows.specs.declared.way.Way.{Way}
 use Rattle.rows.specs.declared.way.Four.{Four}
 use Rattle.rows.specs.Costing.{Costing}
-use Rattle.rows.specs.Row.{nothing, next, Row, SomeRow, Kept}
-use Rattle.rows.specs.Way.{BestBelow, Weighed, Settled, Leads, Light, Loaded, Written, EachFour, InFour, ByFour, RowMade}
+use Rattle.rows.specs.Row.{nothing, next, Row}
+use Rattle.rows.specs.Way.{BestBelow, Weighed, Settled, Leads, Loaded, InFour, ByFour}
 use Rattle.rows.proofs.Blocks.{beside-four}
 use Rattle.rows.proofs.Cells.{read_as, next-read}
-use Rattle.rows.proofs.Ways.{below-first, below_more, below_last, each-four, leads-loaded, leads-light}
-use Rattle.rows.proofs.Stores.{row-four}
+use Rattle.rows.proofs.Ways.{below-first, below_more, below_last, each-four, leads-loaded}
 
 -- what is held for the stops `to` to `to` + 3 in place p once their candidates below j are weighed, where the row of the place before stands at
 -- `off` of B and P
 pub record Columns (C : Costing) (p t : ℕ) (early : Bool) (to off j : ℕ) (B P : List ℕ) (held : Four Way) : Type 0 where
   pub counts : InFour (λ i w. w.count ≡ j - beside_of to t) to held
   pub best : (r : ℕ → Found ℕ) → Row p r off (beside_of to t) (2 ^ t) B P → InFour (BestBelow C p (read_as early r) j) to held
-
--- few were weighed
-pub columns-few : {C : Costing} {p t to off j : ℕ} {early : Bool} {B P : List ℕ} {held : Four Way} → j < 4294967296 → Columns C p t early to off j B P held → EachFour (λ w. w.count < 4294967296) held
-columns-few h k = record {
-  a = omega (arith, k.counts.a);
-  b = omega (arith, k.counts.b);
-  c = omega (arith, k.counts.c);
-  d = omega (arith, k.counts.d);
-}
-
--- a candidate that is read can be weighed
-pub column-light : {p off base size j : ℕ} {early : Bool} {w : Way} {B P : List ℕ} → p ≤ 1024 → SomeRow p off base size B P → base ≤ j → j < base + size → Loaded early B P (off + j) j w → Light w
-column-light {j = j} {early = early} small s a b l = leads-light {r = read_as early s.row} small (omega (arith, l.counted)) (leads-loaded (s.there.holds j a b) l)
 
 module _ (C : Costing) (p t : ℕ) (early : Bool) (to off : ℕ) (B P : List ℕ) (four : to % 4 ≡ 0) (two : 2 ≤ t) (e : t ≡ trail p) where
   -- the four have the same candidates
@@ -92,14 +77,3 @@ module _ (C : Costing) (p t : ℕ) (early : Bool) (to off : ℕ) (B P : List ℕ
     where
       last : (i : ℕ) → to ≤ i → i < to + 4 → j ≡ beside_of i (trail p) + 2 ^ trail p
       last i m n = let size : 2 ^ trail p ≡ 2 ^ t = ap (λ x. 2 ^ x) (sym e) in omega (arith, same i m n)
-
--- the four stops in the even row
-pub four-made : {p p' k off start part to r : ℕ} {f : (ℕ → Found ℕ) → ℕ → Found ℕ} {w : Four Way} {B P B' P' : List ℕ} → InFour (λ i x. x.count ≡ k) to w
-    → ((row : ℕ → Found ℕ) → Row p row off start part B P → InFour (Leads p' (f row)) to w) → r ≡ w.a.count + w.b.count + w.c.count + w.d.count
-    → InFour (Written B' P') to w → Kept to 4 B B' × Kept to 4 P P' → RowMade p p' f off start part 0 to 4 (4 * k) B P B' P' r
-four-made {to = to} n g s l k = record {
-  counted = omega (arith, n.a, n.b, n.c, n.d, s);
-  turned = λ row x. row-four (omega arith) (g row x) l;
-  totals_kept = rw zero-add k.0;
-  pivots_kept = rw zero-add k.1;
-}

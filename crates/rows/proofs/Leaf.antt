@@ -54,15 +54,6 @@ ways-at e s = rw (← e) s
 pub ways-sum : {p i k : ℕ} {w : Four Way} → Ways p i k w → w.a.count + w.b.count + w.c.count + w.d.count ≡ k + k + k + k
 ways-sum s = omega (arith, s.counts.a, s.counts.b, s.counts.c, s.counts.d)
 
--- and none of them is large
-pub ways-few : {p i k : ℕ} {w : Four Way} → k < 4294967296 → Ways p i k w → EachFour (λ x. x.count < 4294967296) w
-ways-few h s = record {
-  a = omega (arith, s.counts.a);
-  b = omega (arith, s.counts.b);
-  c = omega (arith, s.counts.c);
-  d = omega (arith, s.counts.d);
-}
-
 -- THE LEAF: four stops that are read, led through three places and written
 pub leaf-made : (C : Costing) (rest : Bool) {p i off : ℕ} {first : Bool} {o x y z : Four Way} {B P B' P' : List ℕ} → InFour (λ j. Loaded first B P j j) i o
     → ((row : ℕ → Found ℕ) → InFour (Leads p row) i o → InFour (Leads (p + 1) (next C p first row)) i x)

@@ -2,12 +2,14 @@
 use mathlib.Core.Path.{◌≡◌, ap, ◌∙◌}
 use mathlib.Core.List.{List}
 use mathlib.Core.Logic.{◌⊎◌, inl}
-use Prim.Native.Nat.{ℕ, ◌+◌, ◌*◌, ◌-◌, ◌≤◌}
-use native.Mathlib.Nat.{mul-add, mul_comm, mul-le-mul}
+use Prim.Native.Nat.{ℕ, ◌+◌, ◌*◌, ◌-◌, ◌^◌, ◌≤◌}
+use native.Mathlib.Nat.{mul-add, mul_comm}
 use native.Mathlib.Omega.{arith}
 use Rattle.walks.specs.Best.{Found}
-use Rattle.rows.specs.Row.{Row, SomeRow, Kept}
+use Rattle.tree.specs.Block.{beside_of}
+use Rattle.rows.specs.Row.{Row, Kept}
 use Rattle.rows.specs.Way.{RowMade}
+use Rattle.rows.specs.Pass.{BlockClosed}
 use Rattle.rows.proofs.Stores.{kept_more, row-part, row-join, row_kept}
 
 -- the two rows stand apart
@@ -30,11 +32,6 @@ module _ {p p' : ℕ} {f : (ℕ → Found ℕ) → ℕ → Found ℕ} {old new b
       → Made p p' f old new base size each i B P B' P' count → Row p r old base size B P → Row p r old start part B' P'
   made-old apart a b m l = row-part a b (row_kept apart m.totals-kept m.pivots-kept l)
 
-  -- so there is a row
-  pub made_some : {i start part count : ℕ} {B' P' : List ℕ} → Apart old new base size → base ≤ start → start + part ≤ base + size
-      → Made p p' f old new base size each i B P B' P' count → SomeRow p old base size B P → SomeRow p old start part B' P'
-  made_some apart a b m s = record { row = s.row; there = made-old apart a b m s.there }
-
   -- four stops more
   pub made-four : {i start part count more : ℕ} {B' P' B'' P'' : List ℕ} → Apart old new base size → base ≤ start → start + part ≤ base + size
       → i + 4 ≤ base + size → Made p p' f old new base size each i B P B' P' count → RowMade p p' f old start part new i 4 (4 * each) B' P' B'' P'' more
@@ -51,6 +48,12 @@ module _ {p p' : ℕ} {f : (ℕ → Found ℕ) → ℕ → Found ℕ} {old new b
         row-join (omega (arith, m.low)) (omega (arith, m.low)) (row_kept (inl (omega (arith, m.low))) g.totals_kept g.pivots_kept (m.made r s)) (g.turned r (made-old apart a b m s));
   }
 
+  -- the same from the stops of a block that holds the candidates of its stops
+  pub made_columns : {t i count more : ℕ} {B' P' B'' P'' : List ℕ} → Apart old new base size → BlockClosed t base size → i + 4 ≤ base + size
+      → Made p p' f old new base size each i B P B' P' count → RowMade p p' f old (beside_of i t) (2 ^ t) new i 4 (4 * each) B' P' B'' P'' more
+      → Made p p' f old new base size each (i + 4) B P B'' P'' (count + more)
+  made_columns {i = i} apart near room m g = made-four apart (near.low i m.low (omega arith)) (near.high i m.low (omega arith)) room m g
+
   -- all stops
   pub made_all : {i count : ℕ} {B' P' : List ℕ} → base + size ≤ i → Made p p' f old new base size each i B P B' P' count
       → RowMade p p' f old base size new base size (each * size) B P B' P' count
@@ -60,7 +63,3 @@ module _ {p p' : ℕ} {f : (ℕ → Found ℕ) → ℕ → Found ℕ} {old new b
     totals_kept = m.totals-kept;
     pivots_kept = m.pivots-kept;
   }
-
-  -- the count is small
-  pub made-few : {i count : ℕ} {B' P' : List ℕ} → size ≤ 1024 → each ≤ 1024 → Made p p' f old new base size each i B P B' P' count → count ≤ 1048576
-  made-few {i} a b m = rw m.counted (mul-le-mul {n₂ = 1024} {m₂ = 1024} b (omega (arith, m.low, m.high)))

@@ -10,7 +10,7 @@ use Rattle.rows.specs.Costing.{Costing}
 use Rattle.rows.specs.Row.{next, along, first_row, last_row, Row, SomeRow, Kept}
 use Rattle.rows.specs.Way.{three_on, RowMade, RowsMade}
 use Rattle.rows.specs.Pass.{AlignedBlock, PassLeft, weighings, pass_weighings}
-use Rattle.rows.proofs.Blocks.{trail-first}
+use Rattle.rows.proofs.Blocks.{trail_first}
 use Rattle.rows.proofs.Along.{along-add, along-three, along-four, last-two, last-four, weighings-add, weighings-three, weighings-four, weighings-same}
 use Rattle.rows.proofs.Lines.{last-holds}
 use Rattle.rows.proofs.Stores.{kept-none, kept_more}
@@ -141,7 +141,7 @@ block_made C {n} {left} {m} {half} {base} {c} {d} {B} {P} {B₂ = B₂} {P₂} a
 pub pair-block : (C : Costing) (left : ℕ) {n m base r : ℕ} {B P B' P' : List ℕ} → m ≡ 1 → RowsMade n (left + 1) (left + 1 + 1) (next C (left + 1) false) 0 n base 2 2 B P B' P' r
     → RowsMade n (left + 1) (left + 2 ^ m) (last_row C left (2 ^ (m - 1))) 0 n base (2 ^ m) (pass_weighings m) B P B' P' r
 unfolding pass_weighings weighings reach
-pair-block C left e k = rw e (rows_as (omega arith) (λ row. sym (last-two C row left)) (rw (trail-first 1 refl) refl) k)
+pair-block C left e k = rw e (rows_as (omega arith) (λ row. sym (last-two C row left)) (rw (trail_first 1 refl) refl) k)
 
 -- and one of four
 pub four-block : (C : Costing) (left : ℕ) {n m base r : ℕ} {B P B' P' : List ℕ} → m ≡ 2 → base + 4 ≤ n
@@ -149,10 +149,6 @@ pub four-block : (C : Costing) (left : ℕ) {n m base r : ℕ} {B P B' P' : List
     → RowsMade n (left + 1) (left + 2 ^ m) (last_row C left (2 ^ (m - 1))) 0 n base (2 ^ m) (pass_weighings m) B P B' P' r
 unfolding pass_weighings
 four-block C left e h k = rw e (rows_as (omega arith) (λ row. sym (last-four C row left)) (sym (weighings-three 4 1 refl)) (rows_of (omega arith) k))
-
--- a block's first row is there
-pub first_some : {p off base size size' : ℕ} {r : ℕ → Found ℕ} {B P : List ℕ} → size ≡ size' → Row p r off base size B P → SomeRow p off base size' B P
-first_some {r = r} e l = record { row = r; there = rw (← e) l }
 
 -- THE PASS: the first row, and the others from it
 pub pass-left : {C : Costing} {before left base m size r : ℕ} {B P B₁ P₁ B₂ P₂ : List ℕ} → size ≡ 2 ^ m → 0 < m → left + 2 ^ m ≤ 1024 → base + 2 ^ m ≤ C.stops

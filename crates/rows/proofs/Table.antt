@@ -4,7 +4,7 @@ use mathlib.Core.Bool.{Bool, true, false, cond}
 use Rattle.std.specs.Prelude.{Some}
 use Prim.Native.Nat.{ℕ, ◌+◌, ◌*◌, ◌/◌, ◌%◌, ◌^◌, ◌≤◌}
 use native.Mathlib.Nat.{mul-le-mul}
-use borrow.Author.Tests.{eq-eqb, ne_eqb}
+use borrow.Author.Tests.{eq-eqb}
 use lib.Dec.{eqb}
 use Rattle.tree.specs.Fork.{bit}
 use Rattle.rows.specs.declared.fork.Held.{Held}
@@ -15,12 +15,7 @@ use Rattle.rows.specs.Source.{held_fits}
 pub square-small : (n : ℕ) → n ≤ 1024 → n * n ≤ 1048576
 square-small n h = mul-le-mul h h
 
--- stops that are not below the fork that is held fit every place
-pub fits-beyond : (n : ℕ) (h : Held) (p i : ℕ) → ((n + i) / 2 ^ (h.level + 1) ≡ h.fork → ⊥) → held_fits n (Some h) p i ≡ true
-unfolding held_fits
-fits-beyond n h p i f = rw (ne_eqb _ _ f)
-
--- those below it fit by their side
+-- stops below the fork that is held fit by their side
 pub fits_below : (n : ℕ) (h : Held) (p i : ℕ) → (n + i) / 2 ^ (h.level + 1) ≡ h.fork → held_fits n (Some h) p i ≡ eqb (bit p h.level) ((bit i h.level + bool_byte h.exchanged) % 2)
 unfolding held_fits
 fits_below n h p i e = rw (eq-eqb _ _ e, state h.exchanged)

@@ -125,21 +125,21 @@ pub stands_at : {p i j v q : ℕ} {r : ℕ → Found ℕ} → i ≡ j → Stands
 stands_at e s = rw (← e) s
 
 -- THE FIRST ROW: in place 0 a stop that fits costs its start
-pub first-start : (C : Costing) (before left i c v q : ℕ) → left ≡ 0 → v ≡ cond (C.fits left i) c unreached → q ≡ i → c ≡ C.start i → c < 2 ^ 33 → Stands (left + 1) (first_row C before left) i v q
+pub first_start : (C : Costing) (before left i c v q : ℕ) → left ≡ 0 → v ≡ cond (C.fits left i) c unreached → q ≡ i → c ≡ C.start i → c < 2 ^ 33 → Stands (left + 1) (first_row C before left) i v q
 unfolding first
-first-start C before zero i c v q e fit own cost small = go (C.fits 0 i) refl
+first_start C before zero i c v q e fit own cost small = go (C.fits 0 i) refl
   where
     go : (b : Bool) → C.fits 0 i ≡ b → Stands 1 (first_row C before 0) i v q
     go true x = let y : v ≡ c = rw x at fit in record { cell = rw x (omega (arith, y, cost), own, omega (arith, y)); low = omega (arith, y) }
     go false x = let y : v ≡ unreached = rw x at fit in record { cell = rw x (omega (arith, y)); low = omega (arith, y) }
-first-start C before (suc l) i c v q e fit own cost small = absurd (omega arith)
+first_start C before (suc l) i c v q e fit own cost small = absurd (omega arith)
 
 -- and in a later one the move from the stop before, which it may follow
-pub first-move : (C : Costing) (before left i c v q : ℕ) → 0 < left → v ≡ cond (C.fits left i) c unreached → q ≡ i → may_follow left before i ≡ true → c ≡ C.weight left before i → c < 2 ^ 33
+pub first_move : (C : Costing) (before left i c v q : ℕ) → 0 < left → v ≡ cond (C.fits left i) c unreached → q ≡ i → may_follow left before i ≡ true → c ≡ C.weight left before i → c < 2 ^ 33
     → Stands (left + 1) (first_row C before left) i v q
 unfolding first
-first-move C before zero i c v q h fit own may cost small = absurd (omega arith)
-first-move C before (suc l) i c v q h fit own may cost small = go (C.fits (suc l) i) refl
+first_move C before zero i c v q h fit own may cost small = absurd (omega arith)
+first_move C before (suc l) i c v q h fit own may cost small = go (C.fits (suc l) i) refl
   where
     go : (b : Bool) → C.fits (suc l) i ≡ b → Stands (suc l + 1) (first_row C before (suc l)) i v q
     go true x = let y : v ≡ c = rw x at fit in record { cell = rw (x, may) (omega (arith, y, cost), own, omega (arith, y)); low = omega (arith, y) }

@@ -7,6 +7,7 @@ ghost use Rattle.rows.specs.Way.{MakesRows};
 ghost use Rattle.rows.specs.Pass.{AlignedBlock, BlockClosed, weighings, pass_weighings};
 
 use crate::cost::Costs;
+use crate::row::Fours;
 use crate::{leaves, row};
 
 // Four places from `place` on, a multiple of 4, for the stops of a block: from the odd row to the odd row. All of them are early, or none.
@@ -15,17 +16,16 @@ fn chunk<C: Costs, const EARLY: bool>(
     totals: &mut [u64],
     pivots: &mut [u16],
     place: usize,
-    base: usize,
-    size: usize,
+    block: Fours,
 ) -> u64
     requires two_rows { TwoRows (C.costing costs).stops (length totals.old) (length pivots.old) }
-    requires place_nonzero { (0 < place) × (place % 4 ≡ 0) × (place + 4 ≤ (C.costing costs).stops) × (base % 4 ≡ 0) × (size % 4 ≡ 0) × (base + size ≤ (C.costing costs).stops) × BlockClosed (trail place) base size }
-    requires some_row { SomeRow place (C.costing costs).stops base size totals.old pivots.old }
-    ensures { MakesRows (C.costing costs).stops place (place + 4) (along (C.costing costs) EARLY place 4) (C.costing costs).stops (C.costing costs).stops base size (weighings size place 4) totals pivots result }
+    requires place_nonzero { (0 < place) × (place % 4 ≡ 0) × (place + 4 ≤ (C.costing costs).stops) × (block.base + block.size ≤ (C.costing costs).stops) × BlockClosed (trail place) block.base block.size }
+    requires some_row { SomeRow place (C.costing costs).stops block.base block.size totals.old pivots.old }
+    ensures { MakesRows (C.costing costs).stops place (place + 4) (along (C.costing costs) EARLY place 4) (C.costing costs).stops (C.costing costs).stops block.base block.size (weighings block.size place 4) totals pivots result }
 {
     let t = usize::trailing_zeros(place);
-    let first = row::next_row::<C, EARLY>(costs, totals, pivots, place, t, base, size);
-    let rest = leaves::leaves::<C, EARLY>(costs, totals, pivots, place + 1, base, size);
+    let first = row::next_row::<C, EARLY>(costs, totals, pivots, place, t, block);
+    let rest = leaves::leaves::<C, EARLY>(costs, totals, pivots, place + 1, block);
     first + rest
 }
 
@@ -36,18 +36,17 @@ fn chunks<C: Costs, const EARLY: bool>(
     pivots: &mut [u16],
     from: usize,
     end: usize,
-    base: usize,
-    size: usize,
+    block: Fours,
 ) -> u64
     requires two_rows { TwoRows (C.costing costs).stops (length totals.old) (length pivots.old) }
-    requires from_nonzero { (0 < from) × (from ≤ end) × (end ≤ (C.costing costs).stops) × (from % 4 ≡ 0) × (end % 4 ≡ 0) × (base % 4 ≡ 0) × (size % 4 ≡ 0) × (base + size ≤ (C.costing costs).stops) }
-    requires by_index { (p : ℕ) → from ≤ p → p < end → BlockClosed (trail p) base size }
-    requires some_row { SomeRow from (C.costing costs).stops base size totals.old pivots.old }
-    ensures { MakesRows (C.costing costs).stops from end (along (C.costing costs) EARLY from (end - from)) (C.costing costs).stops (C.costing costs).stops base size (weighings size from (end - from)) totals pivots result }
+    requires from_nonzero { (0 < from) × (from ≤ end) × (end ≤ (C.costing costs).stops) × (from % 4 ≡ 0) × (end % 4 ≡ 0) × (block.base + block.size ≤ (C.costing costs).stops) }
+    requires by_index { (p : ℕ) → from ≤ p → p < end → BlockClosed (trail p) block.base block.size }
+    requires some_row { SomeRow from (C.costing costs).stops block.base block.size totals.old pivots.old }
+    ensures { MakesRows (C.costing costs).stops from end (along (C.costing costs) EARLY from (end - from)) (C.costing costs).stops (C.costing costs).stops block.base block.size (weighings block.size from (end - from)) totals pivots result }
 {
     let mut count = 0;
     for place in (from..end).step_by(4) {
-        count += chunk::<C, EARLY>(costs, totals, pivots, place, base, size);
+        count += chunk::<C, EARLY>(costs, totals, pivots, place, block);
     }
     count
 }
@@ -59,17 +58,16 @@ fn first_half<C: Costs>(
     pivots: &mut [u16],
     left: usize,
     half: usize,
-    base: usize,
+    block: Fours,
 ) -> u64
     requires two_rows { TwoRows (C.costing costs).stops (length totals.old) (length pivots.old) }
-    requires le_half { (4 ≤ half) × (half % 4 ≡ 0) × (left % 4 ≡ 0) × (base % 4 ≡ 0) × (left + 2 * half ≤ (C.costing costs).stops) × (base + 2 * half ≤ (C.costing costs).stops) }
-    requires by_index { (p : ℕ) → left < p → p < left + half → BlockClosed (trail p) base (2 * half) }
-    requires some_row { SomeRow (left + 1) 0 base (2 * half) totals.old pivots.old }
-    ensures { MakesRows (C.costing costs).stops (left + 1) (left + half) (along (C.costing costs) true (left + 1) (half - 1)) 0 (C.costing costs).stops base (2 * half) (weighings (2 * half) (left + 1) (half - 1)) totals pivots result }
+    requires le_half { (4 ≤ half) × (half % 4 ≡ 0) × (left % 4 ≡ 0) × (left + 2 * half ≤ (C.costing costs).stops) × (block.base + block.size ≤ (C.costing costs).stops) }
+    requires by_index { (p : ℕ) → left < p → p < left + half → BlockClosed (trail p) block.base block.size }
+    requires some_row { SomeRow (left + 1) 0 block.base block.size totals.old pivots.old }
+    ensures { MakesRows (C.costing costs).stops (left + 1) (left + half) (along (C.costing costs) true (left + 1) (half - 1)) 0 (C.costing costs).stops block.base block.size (weighings block.size (left + 1) (half - 1)) totals pivots result }
 {
-    let size = 2 * half;
-    let first = leaves::leaves::<C, true>(costs, totals, pivots, left + 1, base, size);
-    let rest = chunks::<C, true>(costs, totals, pivots, left + 4, left + half, base, size);
+    let first = leaves::leaves::<C, true>(costs, totals, pivots, left + 1, block);
+    let rest = chunks::<C, true>(costs, totals, pivots, left + 4, left + half, block);
     first + rest
 }
 
@@ -89,8 +87,12 @@ fn large_block<C: Costs>(
 {
     let half = row::two_to(m - 1);
     let end = left + 2 * half;
-    let early = first_half(costs, totals, pivots, left, half, base);
-    let late = chunks::<C, false>(costs, totals, pivots, left + half, end, base, 2 * half);
+    let stops = Fours {
+        base,
+        size: 2 * half,
+    };
+    let early = first_half(costs, totals, pivots, left, half, stops);
+    let late = chunks::<C, false>(costs, totals, pivots, left + half, end, stops);
     early + late
 }
 

@@ -31,6 +31,7 @@ impl<'a> ByPath<'a> {
 }
 
 // Whether stop i of n may stand in `place`, where this fork is held.
+#[tactic(auto, unfolding(crate::specs::Source::held_fits), using(crate::proofs::Table::fits_below))]
 fn fits(n: usize, held: Option<Held>, place: usize, i: usize) -> bool
     requires { (n ≤ 1024) × (i < 1024) }
     ensures { result ≡ held_fits n held place i }
@@ -51,6 +52,7 @@ fn fits(n: usize, held: Option<Held>, place: usize, i: usize) -> bool
 impl<'a> Costs for ByPath<'a> {
     ghost costing = { λ s. path_costing s.n s.path.version s.path.bytes.now s.held };
 
+    // A line that stands in `ByTable` too: a trait knows no fields.
     fn stops(self) -> usize {
         self.n
     }

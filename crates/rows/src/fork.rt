@@ -2,7 +2,7 @@
 
 ghost use Rattle.std.specs.Prelude.{◌≡◌, ◌↔◌, ◌<◌, IsSome, IfSome};
 
-// A fork with 2^level stops on each of its sides, held exchanged or not.
+// A fork with 2^level stops on each of its sides, held exchanged or not: a state of the fork, in both of which it has the same fields, so a `bool` and no enum.
 #[derive(Clone, Copy)]
 pub struct Held {
     pub fork: usize,

@@ -7,6 +7,8 @@
 //
 // `totals` and `pivots` stay two parameters: a struct that holds both `&mut` would ask two clauses more of each function that writes through it, that the slices are still
 // the caller's, and is no plainer.
+// `before` and `left`, `from` and `to` stay numbers: a struct of two would be made for one call and taken apart in it, and is no plainer. That a place or a stop is below
+// the number of stops is asked where it is used: that number is the costs', so that no type of places or stops can keep the fact.
 
 #![tactic(auto)]
 

@@ -12,7 +12,16 @@ ghost use Rattle.rows.specs.Pass.{BlockClosed};
 use crate::cost::Costs;
 use crate::way::{self, Four, Way};
 
-// 2^m. A shift, since it is taken for every four stops: the library's `pow` loops.
+// The stops of a block that are taken four at a time: `size` of them from `base` on, both multiples of 4.
+#[derive(Clone, Copy)]
+pub struct Fours {
+    pub base: usize,
+    pub size: usize,
+    ghost starts: { base % 4 ≡ 0 },
+    ghost whole: { size % 4 ≡ 0 },
+}
+
+// 2^m. A shift, taken for every four stops: the library's `pow`, a loop over the exponent's bits, is no plainer.
 pub fn two_to(m: u32) -> usize
     requires { m ≤ 10 }
     ensures { result ≡ 2 ^ m }
@@ -95,6 +104,7 @@ pub fn first_row<C: Costs>(
     ensures row { Row (left + 1) (first_row (C.costing costs) before left) 0 base size totals.new pivots.new }
     ensures kept { Kept base size totals.old totals.new × Kept base size pivots.old pivots.new }
 {
+    // A number and not a place of the row: it is the stop whose way begins here, so an iterator over both parts with a number beside is no plainer.
     for i in base..base + size {
         let begun = way::first(costs, before, left, i);
         totals[i] = begun.total;
@@ -126,6 +136,7 @@ fn other<C: Costs>(
 }
 
 // The second and last place of two, for the stops i and i + 1: each has the other before it.
+#[tactic(auto, using(crate::proofs::Blocks::beside_even, crate::proofs::Blocks::beside_odd))]
 pub fn pair<C: Costs>(
     costs: C,
     totals: &mut [u64],
@@ -200,16 +211,15 @@ pub fn next_row<C: Costs, const EARLY: bool>(
     pivots: &mut [u16],
     place: usize,
     t: u32,
-    base: usize,
-    size: usize,
+    block: Fours,
 ) -> u64
     requires two_rows { TwoRows (C.costing costs).stops (length totals.old) (length pivots.old) }
-    requires place_lt_n { (place < (C.costing costs).stops) × (t ≡ trail place) × (2 ≤ t) × (t < 10) × (base % 4 ≡ 0) × (size % 4 ≡ 0) × (base + size ≤ (C.costing costs).stops) × BlockClosed t base size }
-    requires some_row { SomeRow place (C.costing costs).stops base size totals.old pivots.old }
-    ensures { MakesRow place (place + 1) (next (C.costing costs) place EARLY) (C.costing costs).stops base size 0 base size (2 ^ t * size) totals pivots result }
+    requires place_lt_n { (place < (C.costing costs).stops) × (t ≡ trail place) × (2 ≤ t) × (t < 10) × (block.base + block.size ≤ (C.costing costs).stops) × BlockClosed t block.base block.size }
+    requires some_row { SomeRow place (C.costing costs).stops block.base block.size totals.old pivots.old }
+    ensures { MakesRow place (place + 1) (next (C.costing costs) place EARLY) (C.costing costs).stops block.base block.size 0 block.base block.size (2 ^ t * block.size) totals pivots result }
 {
     let mut count = 0;
-    for i in (base..base + size).step_by(4) {
+    for i in (block.base..block.base + block.size).step_by(4) {
         count += four_columns::<C, EARLY>(costs, totals, pivots, place, t, i);
     }
     count

@@ -99,11 +99,11 @@ impl<'a, 'b> Costs for ByPlaces<'a, 'b> {
     ghost costing = { λ s. placed_costing s.moves.n s.moves.table.now s.moves.closing s.places.now };
 
     fn stops(self) -> usize {
-        self.moves.n
+        self.moves.stops()
     }
 
-    fn fits(self, _place: usize, _i: usize) -> bool {
-        true
+    fn fits(self, place: usize, i: usize) -> bool {
+        self.moves.fits(place, i)
     }
 
     fn of_start(self, i: usize) -> u64 {

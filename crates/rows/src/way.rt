@@ -40,6 +40,7 @@ pub fn start(pivot: u16, count: u64) -> Way
 }
 
 // Weighs one candidate: the way to it, and the cost of the move from it. No other function considers one, and the count grows here alone.
+#[tactic(auto, unfolding(walks::specs::Rows::turn))]
 fn weigh(held: Way, before: Way, cost: u64) -> Way
     requires { Light before × (cost < 2 ^ 33) × (held.count ≤ 2 ^ 32) }
     ensures { Weighing before cost held result }
@@ -111,6 +112,7 @@ fn begun<C: Costs>(costs: C, left: usize, cost: u64, i: usize) -> Way
 }
 
 // The same after the stop `before`; before place 0 there is none.
+#[tactic(auto, using(crate::proofs::Ways::first_start, crate::proofs::Ways::first_move))]
 pub fn first<C: Costs>(costs: C, before: usize, left: usize, i: usize) -> Way
     requires before_lt_n { (before < (C.costing costs).stops) × (left < (C.costing costs).stops) × (i < (C.costing costs).stops) }
     requires i_value { 0 < left → may_follow left before i ≡ true }

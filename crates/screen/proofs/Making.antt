@@ -5,7 +5,7 @@ use Prim.Native.Nat.{ℕ, ◌+◌, ◌-◌, ◌^◌, ◌≤◌, ◌<◌}
 use native.Mathlib.Omega.{arith}
 use lib.ListN.{length, get_or, set, length-set}
 use lib.Pow.{pow_pos}
-use lib.Seq.{get_or-set_same, get_or-set_other, drop-set-lt}
+use lib.Seq.{get_or-set_same, get_or-set_other}
 use Rattle.base.specs.Outcome.{over}
 use Rattle.tree.specs.Neighbour.{lowest_fork}
 use Rattle.orders.specs.Lent.{order_in, JudgedOrder}
@@ -46,18 +46,6 @@ module _ (k : ℕ) (order before : List ℕ) (j : JudgedOrder k order) where
       go : (u : ℕ) → 1 ≤ u → u < 2 ^ k → between k o u < p + 1 → Dec (u ≡ v) → get_or (set s v x) u 0 ≡ between k o u
       go u c d l (yes i) = rw i (get_or-set_same s v x 0 (omega (arith, w.within.long, f.below)) ∙ is ∙ sym f.here)
       go u c d l (no i) = get_or-set_other s v u x 0 i ∙ w.places u c d (between-earlier k order j p v u c d l e (λ q. i (sym q)))
-
-  -- all
-  pub placed-all : (p : ℕ) (s : List ℕ) → 2 ^ k ≤ p → Placed k (order_in k order) (set before 0 0) p s → Placed k (order_in k order) before (2 ^ k) s
-  placed-all p s l w = record {
-    within = record {
-      long = w.within.long;
-      same = w.within.same ∙ length-set before 0 0;
-      zero = w.within.zero;
-      beyond = w.within.beyond ∙ drop-set-lt (2 ^ k) before 0 0 (pow_pos k);
-    };
-    places = λ v a b c. w.places v a b (omega arith);
-  }
 
   -- ---- the sums
 

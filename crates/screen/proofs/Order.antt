@@ -1,8 +1,7 @@
 -- A judged order in a lent buffer: its stops, its forks and the bounds of its sums.
 use mathlib.Core.Path.{◌≡◌, sym, ap, subst, ◌∙◌}
 use mathlib.Core.List.{List, ◌++◌}
-use Prim.Native.Nat.{ℕ, ◌+◌, ◌*◌, ◌^◌, ◌≤◌, ◌<◌}
-use native.Mathlib.Nat.{add-zero}
+use Prim.Native.Nat.{ℕ, ◌+◌, ◌^◌, ◌≤◌, ◌<◌}
 use native.Mathlib.Omega.{arith}
 use lib.ListN.{length, get_or, take, set, length-set, take-append-drop}
 use lib.Seq.{get_or-take, length-take-le, get_or-set_other, drop-set-lt}
@@ -18,7 +17,7 @@ use Rattle.orders.specs.Lent.{order_in, JudgedOrder}
 use Rattle.orders.proofs.Allowed.{below_each}
 use Rattle.orders.proofs.Same.{equal}
 use Rattle.group_sums.specs.Travel.{inner_travel, sums_of}
-use Rattle.group_sums.specs.Between.{between, move_into, side_sum, sum_by}
+use Rattle.group_sums.specs.Between.{between, move_into, sum_by}
 use Rattle.group_sums.proofs.Travel.{travel-le, length-sums_of}
 use Rattle.group_sums.proofs.Between.{Between, lowest-between, between-lt, between-lowest}
 use Rattle.group_sums.proofs.Adds.{sums-are, sums_by, move_into-take}
@@ -89,10 +88,6 @@ module _ (k : ℕ) (order : List ℕ) (j : JudgedOrder k order) where
 
   pub travel-fits : (t : ℕ → ℕ → ℕ) (v : ℕ) → Short t → inner_travel t k (order_in k order) v < 2 ^ 64
   travel-fits t v short = omega (arith, travel-le t k (order_in k order) v longest_time short, few)
-
--- a fork's sum as the code adds it up
-pub sum-made : (n : ℕ) (s : List ℕ) (v x a b : ℕ) → a ≡ side_sum n s (2 * v) → b ≡ side_sum n s (2 * v + 1) → a + b + x ≡ sum_by n s v x
-sum-made n s v x a b e f = rw (e, f, add-zero (2 * v))
 
 -- ---- the lent sums
 

@@ -4,7 +4,7 @@
 // No public function has a `requires`. A refusal gives its number and touches no lent buffer; after success each output holds its result
 // first and is untouched beyond. There is no work space: the times come straight from the path's bytes.
 
-#![tactic(auto)]
+#![tactic(auto, using(orders::proofs::Size::sizes, orders::proofs::Shift::reaches), unfolding(crate::specs::Records::with_sums, crate::specs::Records::judge_records, crate::specs::Records::lent_records, crate::specs::Records::fork_exchanged, crate::specs::Screen::places_room, crate::specs::Local::place_above, group_sums::specs::Between::side_sum))]
 
 mod forks;
 mod judge;
@@ -23,6 +23,7 @@ use judge::judge_exchange;
 pub use judge::judge_path;
 use orders::judge_lent;
 use path::PathBytes;
+use sums::Ordered;
 
 // The refusal of an order with its sums by the stops of path bytes: k above 10 (5), one of the two too short (8), a stop number n or more (9), an
 // order that is not allowed (10), a sum that is not the order's (11). A building block for callers that judge the path themselves.
@@ -30,7 +31,7 @@ pub fn judge_records(path: PathBytes<'_>, order: &[u16], sums: &[u64]) -> Result
     ensures { said result ≡ done (lent_records (times_of path.entry) path.entry.k order.now sums.now) }
 {
     judge_lent(path.k, order, stop_count(path.k) <= sums.len())?;
-    if !sums::sums_agree(path, order, sums) {
+    if !(Ordered { path, order }).sums_agree(sums) {
         return Err(Refusal::WrongTotal);
     }
     Ok(())
@@ -48,7 +49,7 @@ pub fn group_sums(
 {
     let path = judge_path(bytes, highest, order.len().min(sums.len()))?;
     judge_lent(path.k, order, true)?;
-    make::make_sums(path, order, sums);
+    Ordered { path, order }.make_sums(sums);
     Ok(())
 }
 

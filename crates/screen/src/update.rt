@@ -10,7 +10,7 @@ ghost use Rattle.screen.specs.Times.{times_of};
 ghost use Rattle.screen.specs.Local.{place_above, Updated};
 
 use crate::forks::place_between;
-use crate::sums::{move_into, sum_by};
+use crate::sums::{Ordered, sum_by};
 use base::stop_count;
 use path::PathBytes;
 use tree::reach;
@@ -33,21 +33,23 @@ fn place_above(p: usize) -> usize
     p / (4 * r) * (4 * r) + 2 * r
 }
 
-// Makes the sums of fork v, between whose sides is place p, and of the forks above it anew.
-fn update_sums(path: PathBytes<'_>, v: usize, p: usize, order: &[u16], sums: &mut [u64])
-    requires { JudgedOrder path.k order.now × (1 ≤ v) × (v < 2 ^ path.k) × (p ≡ between path.k (order_in path.k order.now) v)
-        × Updated (times_of path) path.k (order_in path.k order.now) sums.old v sums.old }
-    ensures { sums.new ≡ over (sums_of (times_of path.entry) path.entry.k (order_in path.entry.k order.now)) sums.old }
-{
-    let n = stop_count(path.k);
-    let mut u = v;
-    let mut at = p;
-    // The fork is halved in each step, which no range has.
-    while 0 < u {
-        let sum = sum_by(n, sums, u, move_into(path, at, order));
-        sums[u] = sum;
-        at = place_above(at);
-        u = u / 2;
+impl Ordered<'_> {
+    // Makes the sums of fork v, between whose sides is place p, and of the forks above it anew.
+    fn update_sums(self, v: usize, p: usize, sums: &mut [u64])
+        requires { (1 ≤ v) × (v < 2 ^ self.path.k) × (p ≡ between self.path.k (order_in self.path.k self.order.now) v)
+            × Updated (times_of self.path) self.path.k (order_in self.path.k self.order.now) sums.old v sums.old }
+        ensures { sums.new ≡ over (sums_of (times_of self.entry.path) self.entry.path.k (order_in self.entry.path.k self.entry.order.now)) sums.old }
+    {
+        let n = stop_count(self.path.k);
+        let mut u = v;
+        let mut at = p;
+        // The fork is halved in each step, which no range has.
+        while 0 < u {
+            let sum = sum_by(n, sums, u, self.move_into(at));
+            sums[u] = sum;
+            at = place_above(at);
+            u = u / 2;
+        }
     }
 }
 
@@ -61,5 +63,5 @@ pub fn exchange(path: PathBytes<'_>, v: usize, order: &mut [u16], sums: &mut [u6
     let p = place_between(path.k, v, order);
     let half = reach(p);
     swap_halves(half, &mut order[p - half..p + half]);
-    update_sums(path, v, p, order, sums);
+    Ordered { path, order }.update_sums(v, p, sums);
 }

@@ -5,13 +5,13 @@ use native.Mathlib.Omega.{arith}
 use lib.IntN.{ℤ, pos, neg_ℤ, ◌-ℤ◌, +ℤ_idl, pos-ne-negsuc}
 use lib.Signed.{mag}
 use mir.Syntax.{w64}
-use mir.Val.{SFits, to_z, of_z}
+use mir.Val.{to_z, of_z}
 use mir.ValLaws.{to_z_pos, to_z-of_z}
 use Rattle.std.specs.Prelude.{Result, Ok, Err, MatchResult, IsOkAnd}
 use Rattle.base.specs.declared.Refusal.{Refusal}
 use Rattle.base.specs.Outcome.{Outcome, refuses, said}
 use Rattle.base.proofs.Numbered.{IsNumber, Numbered, given, refusal}
-use Rattle.signed.specs.Result.{nothing, itself, negative, largest, signed}
+use Rattle.signed.specs.Result.{itself, negative, largest, signed}
 use Rattle.signed.specs.Result as result
 use Rattle.signed.proofs.AtMost.{kept-below}
 
@@ -20,11 +20,6 @@ use Rattle.signed.proofs.AtMost.{kept-below}
 -- a number below 2^63 is read as itself
 pub read_count : (n : ℕ) → n < 2 ^ 63 → to_z w64 n ≡ pos n
 read_count n h = to_z_pos w64 n h
-
--- and what was made negative stays so
-pub neg-fits : (n : ℕ) → n < 2 ^ 63 → SFits w64 (neg_ℤ (pos n))
-neg-fits zero h = record { sfits = omega arith }
-neg-fits (suc n) h = record { sfits = omega arith }
 
 -- 0 less a number is that number made negative
 pub from_zero : (n : ℕ) → n < 2 ^ 63 → pos 0 -ℤ to_z w64 n ≡ neg_ℤ (pos n)

@@ -13,7 +13,7 @@ use base::Refusal;
 // The largest signed 64-bit number.
 const LARGEST: u64 = 9_223_372_036_854_775_807;
 
-// A refusal's number, made negative.
+// A refusal's number, made negative: a number and no `Refusal`, since a call takes any.
 pub fn refusal(number: u16) -> i64
     ensures { result ≡ negative number }
 {

@@ -8,7 +8,7 @@ use native.Mathlib.Nat.{le_of_suc-le-suc, not-suc-le-zero}
 use native.Mathlib.Numerals.{one-add}
 use native.Mathlib.Omega.{arith}
 use lib.Dec.{leb}
-use lib.ListN.{length, get_or, take, drop, length-map, length-drop, get_or-eq_default}
+use lib.ListN.{length, get_or, take, drop, length-map, length-drop}
 use lib.Seq.{get_or-drop}
 use lib.IntN.{ℤ, pos}
 use borrow.Author.Tests.{leb-true}
@@ -29,13 +29,6 @@ length-first n lent = length-tabulate n (stop_at lent)
 
 pub get_or-first : (n : ℕ) (lent : LentStops) (i : ℕ) (d : Stop) → i < n → get_or (first_stops n lent) i d ≡ stop_at lent i
 get_or-first n lent i d h = get_or-tabulate n (stop_at lent) i d h
-
--- a point past the buffer's end is all 0
-pub point-beyond : (coords : List ℤ) (i : ℕ) → length coords ≤ i → point_at coords i ≡ pos 0 ∷ pos 0 ∷ pos 0 ∷ []
-unfolding point_at
-point-beyond coords i h =
-    let beyond : (k : ℕ) → i ≤ k → get_or coords k (pos 0) ≡ pos 0 = λ k l. get_or-eq_default coords (pos 0) (omega arith) in
-    rw (beyond (3 * i + 1) (omega arith), beyond (3 * i + 2) (omega arith), beyond (3 * i) (omega arith))
 
 -- the buffers without the first stop
 abbrev pub after_first : LentStops → LentStops

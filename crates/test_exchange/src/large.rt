@@ -1,6 +1,6 @@
 // Exchanges for k = 10.
 
-use crate::call::{both, exchange, twice};
+use crate::call::Order;
 use std::io;
 use test_support::part;
 
@@ -21,10 +21,11 @@ fn known_order() -> [u16; 1025] {
 // Two sets, and a set twice.
 fn sets<R: Print + AllocGlobal>(rt: &R) -> io::Result<()> {
     let stops = known_order();
+    let order = Order::of(10, &stops);
     let x = string(0x5a, 17, 0xe1);
     let y = string(0x36, 17, 0x9f);
-    both(rt, 10, &stops, &x, &y, &string(0x6c, 17, 0x7e), 1025)?;
-    twice(rt, 10, &stops, &x, 1024)
+    order.both(rt, &x, &y, &string(0x6c, 17, 0x7e), 1025)?;
+    order.twice(rt, &x, 1024)
 }
 
 // Each refusal, and with two faults at once: a name, a place of the order and the stop that is put there, the string's first byte, how many of its bytes
@@ -61,7 +62,7 @@ pub fn run<R: Print + AllocGlobal>(rt: &R) -> io::Result<()> {
         let mut stops = known_order();
         part::put(&mut stops, at, stop);
         let bits = string(0x5a, 0, first);
-        exchange(rt, name, 10, &stops, part::first(&bits, bytes), room)?;
+        Order::of(10, &stops).exchange(rt, name, part::first(&bits, bytes), room)?;
     }
     Ok(())
 }

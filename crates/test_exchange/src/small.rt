@@ -1,6 +1,6 @@
 // Exchanges for k from 0 to 3.
 
-use crate::call::{both, exchange, twice};
+use crate::call::Order;
 use std::io;
 
 // An exchange: its name, k, the order, the string of forks, and how many places are lent.
@@ -65,21 +65,21 @@ const TWO_FAULTS: [Exchange; 9] = [
 
 // Exchanges, one after another.
 fn exchanges<R: Print + AllocGlobal>(rt: &R, all: &[Exchange]) -> io::Result<()> {
-    for (name, k, order, bits, room) in all {
-        exchange(rt, name, *k, order, bits, *room)?;
+    for (name, k, stops, bits, room) in all {
+        Order::of(*k, stops).exchange(rt, name, bits, *room)?;
     }
     Ok(())
 }
 
 // Two sets, and a set twice.
 fn two_sets<R: Print + AllocGlobal>(rt: &R) -> io::Result<()> {
-    both(rt, 1, &[0, 1], &[0x02], &[0x02], &[0x00], 3)?;
-    both(rt, 2, &[2, 3, 1, 0], &[0x06], &[0x0c], &[0x0a], 5)?;
-    both(rt, 3, EIGHT, &[0x2a], &[0x4e], &[0x64], 9)?;
-    twice(rt, 0, &[0], &[0x00], 2)?;
-    twice(rt, 1, &[1, 0], &[0x02], 3)?;
-    twice(rt, 2, &[2, 3, 1, 0], &[0x0a], 5)?;
-    twice(rt, 3, EIGHT, &[0x96], 8)
+    Order::of(1, &[0, 1]).both(rt, &[0x02], &[0x02], &[0x00], 3)?;
+    Order::of(2, &[2, 3, 1, 0]).both(rt, &[0x06], &[0x0c], &[0x0a], 5)?;
+    Order::of(3, EIGHT).both(rt, &[0x2a], &[0x4e], &[0x64], 9)?;
+    Order::of(0, &[0]).twice(rt, &[0x00], 2)?;
+    Order::of(1, &[1, 0]).twice(rt, &[0x02], 3)?;
+    Order::of(2, &[2, 3, 1, 0]).twice(rt, &[0x0a], 5)?;
+    Order::of(3, EIGHT).twice(rt, &[0x96], 8)
 }
 
 // The exchanges for k from 0 to 3.

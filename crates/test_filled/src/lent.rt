@@ -1,7 +1,5 @@
 // What a call is lent.
 
-ghost use Rattle.std.specs.Prelude.{◌≤◌};
-
 use std::alloc::{AllocError, Global};
 use std::fmt::{self, Display, Formatter};
 use test_support::count;
@@ -18,10 +16,9 @@ pub struct Lengths {
 }
 
 impl Lengths {
-    // What n stops need, and one more of each but the table.
-    pub fn enough(n: usize) -> Lengths
-        requires { n ≤ 64 }
-    {
+    // What n stops, up to 64, need, and one more of each but the table.
+    pub fn enough(n: usize) -> Lengths {
+        let n = n.min(64);
         Lengths {
             table: n * n,
             empties: n + 1,
@@ -41,7 +38,8 @@ pub struct Lent {
 }
 
 impl Lent {
-    // Buffers of these lengths, in which every place holds 77.
+    // Buffers of these lengths, in which every place holds 77. Other programs lend other buffers: one generic struct would lose
+    // their names.
     pub fn new(alloc: Global, lengths: Lengths) -> Result<Lent, AllocError> {
         Ok(Lent {
             list: vec![in alloc; 77; lengths.list]?,

@@ -1,6 +1,6 @@
 // Calls that are refused, and calls whose lengths are just enough, by a table of four rows, where stop 1 is empty.
 
-use crate::call::call;
+use crate::call::Asked;
 use crate::lent::Lengths;
 use std::io;
 
@@ -64,7 +64,14 @@ fn calls<R: Print + AllocGlobal>(rt: &R, all: &[Refused]) -> io::Result<()> {
             bits: *bits,
             work: *work,
         };
-        call(rt, *k, 1, 4, 2, *changes, lengths)?;
+        let asked = Asked {
+            k: *k,
+            rule: 1,
+            n: 4,
+            empty: 2,
+            changes: *changes,
+        };
+        asked.example(rt, lengths)?;
     }
     Ok(())
 }

@@ -21,8 +21,7 @@ pub fn every<R: Print + AllocGlobal>(rt: &R, line: &[u8]) -> io::Result<()> {
     let path = part::first(&bytes, text::size(line, 3));
     let mut work = Work::new(rt.alloc(), 17, 18, 19)?;
     println!(rt; "")?;
-    for above in 0..text::short(line, 4) {
-        let fork = above + 1;
+    for fork in 1..=text::short(line, 4) {
         print!(rt; "fork {fork}")?;
         words::write_cost(rt, work.fork_cost(path, 6, fork))?;
         println!(rt; "")?;

@@ -3,7 +3,7 @@
 use base::Refusal;
 use std::io;
 use test_support::cases::Cases;
-use test_support::write::{Bytes, Numbers};
+use test_support::write::{self, Bytes, Numbers};
 use test_support::{part, text};
 
 // The bytes of a path, the screen's order and sums, and the marks, stops and sums of what is kept.
@@ -22,11 +22,11 @@ impl Cases for Session {
     // functions would name the same letters beside them.
     fn run<R: Print + AllocGlobal>(&mut self, rt: &R, letter: u8, line: &[u8]) -> io::Result<()> {
         match letter {
-            b'k' => answer(rt, self.keep(line))?,
-            b'b' => answer(rt, self.back(line))?,
-            b'c' => answer(rt, self.clear(line))?,
-            b'm' => answer(rt, self.make(line))?,
-            b'e' => answer(rt, self.exchange(line))?,
+            b'k' => write::number(rt, self.keep(line))?,
+            b'b' => write::number(rt, self.back(line))?,
+            b'c' => write::number(rt, self.clear(line))?,
+            b'm' => write::number(rt, self.make(line))?,
+            b'e' => write::number(rt, self.exchange(line))?,
             b'p' => self.begin(line),
             _ => self.put(letter, line),
         }
@@ -34,14 +34,7 @@ impl Cases for Session {
     }
 }
 
-// The number of an answer: 0 where the records were made.
-fn answer(rt: &impl Print, made: Result<(), Refusal>) -> io::Result<()> {
-    match made {
-        Ok(()) => print!(rt; ": 0"),
-        Err(refusal) => print!(rt; ": {}", refusal.number()),
-    }
-}
-
+// What each case calls. The line stays beside the session: a struct of both would live for one call.
 impl Session {
     // Every place of the screen's order and sums, and of what is kept.
     fn write(&self, rt: &impl Print) -> io::Result<()> {

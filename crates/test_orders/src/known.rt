@@ -1,6 +1,7 @@
 // Known orders, tables and files.
 
-use test_support::part;
+use std::array;
+use test_support::{part, table};
 
 // The last `count` hexadecimal digits of a number as the first stops of an order.
 pub fn stops(count: usize, digits: u64) -> [u16; 17] {
@@ -13,20 +14,10 @@ pub fn stops(count: usize, digits: u64) -> [u16; 17] {
     order
 }
 
-// The x of the stops of the 50 example: 0, 30, 10, 20.
-fn x_of(stop: usize) -> u32 {
-    match stop {
-        0 => 0,
-        1 => 30,
-        2 => 10,
-        _ => 20,
-    }
-}
-
 // Entry i of the table of a word: `fifty`, that of the 50 example; `pair`, 3 from 0 to 1 and 7 from 1 to 0; `rule`, numbers near the largest.
-fn entry(word: u8, i: usize) -> u32 {
+pub fn entry(word: u8, i: usize) -> u32 {
     match (word, i) {
-        (b'f', _) => x_of(i / 4).abs_diff(x_of(i % 4)),
+        (b'f', _) => table::fifty(i / 4, i % 4),
         (b'r', _) => u32::MAX - (i % 1048576 * 37 % 101) as u32,
         (_, 1) => 3,
         (_, 2) => 7,
@@ -34,18 +25,9 @@ fn entry(word: u8, i: usize) -> u32 {
     }
 }
 
-// Fills a table.
-pub fn fill(table: &mut [u32], word: u8) {
-    for (i, time) in table.iter_mut().enumerate() {
-        *time = entry(word, i);
-    }
-}
-
 // A table of 65 places.
 pub fn table(word: u8) -> [u32; 65] {
-    let mut table = [0u32; 65];
-    fill(&mut table, word);
-    table
+    array::from_fn(|i| entry(word, i))
 }
 
 // The file of the 50 example, whose records begin at 0, 6, 26 and 31. In each file the total lies at 10 and the stops at 18.

@@ -2,7 +2,7 @@
 
 use crate::{file, known, order};
 use std::alloc::{AllocError, Global};
-use std::io;
+use std::{array, io};
 use test_support::{part, text};
 
 // Byte i of a mixed set of forks.
@@ -12,11 +12,7 @@ fn mixed(i: usize) -> u8 {
 
 // The mixed set, of which bit 0 is 0, in so many bytes.
 fn forks<const N: usize>() -> [u8; N] {
-    let mut bits = [0u8; N];
-    for (i, byte) in bits.iter_mut().enumerate() {
-        *byte = mixed(i);
-    }
-    bits
+    array::from_fn(mixed)
 }
 
 // The order of the mixed set, and 77 past it.
@@ -35,9 +31,7 @@ fn changed_order(line: &[u8]) -> [u16; 1025] {
 
 // The table by the rule.
 fn table(alloc: Global) -> Result<Vec<u32>, AllocError> {
-    let mut table = vec![in alloc; 0u32; 1048576]?;
-    known::fill(&mut table, b'r');
-    Ok(table)
+    (0..1048576).map(|i| known::entry(b'r', i)).collect(alloc)
 }
 
 // `large order AT BYTE ROOM`: the order of the mixed set with one byte changed.
@@ -77,7 +71,7 @@ fn read<R: Print + AllocGlobal>(rt: &R, line: &[u8]) -> io::Result<()> {
     file::read_file(rt, 10, &table, file, &mut order, &mut bits)
 }
 
-// What the second word of a case calls.
+// What the second word of a case calls: a `match` on its letter as in `main`, whose arms are this program's own calls.
 pub fn call<R: Print + AllocGlobal>(rt: &R, line: &[u8]) -> io::Result<()> {
     match text::letter(line, 2) {
         b'o' => order_of(rt, line),

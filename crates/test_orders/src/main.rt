@@ -34,7 +34,7 @@ impl Cases for Calls {
     }
 }
 
-// Reads the cases and runs them.
+// Reads the cases and runs them: one call, with this program's own cases.
 fn main(rt: HostRuntime) -> io::Result<()> {
     cases::run_all(&rt, &mut Calls)
 }

@@ -1,8 +1,9 @@
-// Orders: their fork bits, the order of fork bits, and totals.
+// Orders: their fork bits, the order of fork bits, and totals. The handle and k go together in three functions: each hands them on to one call, so a
+// struct of them would be made only to be taken apart.
 
 use crate::known;
 use std::io;
-use test_support::write::{self, Bytes, Numbers};
+use test_support::write::{self, Bytes};
 use test_support::{count, part, text};
 
 // Makes the fork bits of an order, in as many bytes, and writes the answer.
@@ -27,10 +28,8 @@ pub fn make_order<R: Print + AllocGlobal>(
     room: usize,
 ) -> io::Result<()> {
     let mut order = vec![in rt.alloc(); 77u16; room]?;
-    match orders::order_of_bits(k, bits, &mut order) {
-        Ok(()) => println!(rt; ": 0, order{}", Numbers(&order)),
-        Err(refusal) => write::refusal(rt, refusal, count::all(&order, 77)),
-    }
+    let made = orders::order_of_bits(k, bits, &mut order);
+    write::made(rt, "order", made, &order)
 }
 
 // Sums an order's total, and writes the answer.

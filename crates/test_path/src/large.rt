@@ -98,14 +98,7 @@ fn from<R: Print + AllocGlobal>(rt: &R, line: &[u8]) -> io::Result<()> {
 fn stops_of(alloc: Global, version: u16) -> Result<Lent, AllocError> {
     let bytes = whole_path(alloc, version)?;
     let mut lent = Lent::new(alloc, LENGTHS)?;
-    let _read = path::read_path(
-        &bytes,
-        6,
-        &mut lent.coords,
-        &mut lent.speeds,
-        &mut lent.blends,
-        &mut lent.dwells,
-    );
+    let _read = lent.read(&bytes, 6);
     Ok(lent)
 }
 
@@ -131,7 +124,7 @@ fn table<R: Print + AllocGlobal>(rt: &R, line: &[u8]) -> io::Result<()> {
     table::make(rt, 10, lent.stops(), text::size(line, 5))
 }
 
-// What the second word of a case calls.
+// What the second word of a case calls: a `match` on its letter as in `main`, whose arms are this program's own calls.
 pub fn call<R: Print + AllocGlobal>(rt: &R, line: &[u8]) -> io::Result<()> {
     match text::letter(line, 2) {
         b'r' => read(rt, line),

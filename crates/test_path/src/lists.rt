@@ -1,5 +1,7 @@
 // The four lists that stops are lent in: their coordinates, speeds, blends and dwells.
 
+use base::Refusal;
+use path::Heading;
 use std::alloc::{AllocError, Global};
 use std::fmt::{self, Display, Formatter};
 use stop::Stops;
@@ -56,6 +58,18 @@ impl Lent {
             blends: vec![in alloc; 77; lengths.blends]?,
             dwells: vec![in alloc; 77; lengths.dwells]?,
         })
+    }
+
+    // Reads a path into them.
+    pub fn read(&mut self, bytes: &[u8], highest: u16) -> Result<Heading, Refusal> {
+        path::read_path(
+            bytes,
+            highest,
+            &mut self.coords,
+            &mut self.speeds,
+            &mut self.blends,
+            &mut self.dwells,
+        )
     }
 
     // The same lists, as a call reads them.

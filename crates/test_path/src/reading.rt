@@ -8,15 +8,7 @@ use test_support::{part, text, write};
 
 // Reads into these lists, and writes the answer: version and k, and every lent place.
 pub fn read_into(rt: &impl Print, bytes: &[u8], highest: u16, mut lent: Lent) -> io::Result<()> {
-    let read = path::read_path(
-        bytes,
-        highest,
-        &mut lent.coords,
-        &mut lent.speeds,
-        &mut lent.blends,
-        &mut lent.dwells,
-    );
-    match read {
+    match lent.read(bytes, highest) {
         Ok(Heading { version, k }) => println!(rt; ": 0, version {version}, k {k}{lent}"),
         Err(refusal) => write::refusal(rt, refusal, lent.untouched()),
     }

@@ -3,7 +3,7 @@
 use crate::{sample, writing};
 use path::PathBytes;
 use std::io;
-use test_support::{part, text};
+use test_support::text;
 
 // Writes a path's bytes in another version, to as many bytes of room, and then the answer.
 pub fn rewrite<R: Print + AllocGlobal>(
@@ -20,10 +20,10 @@ pub fn rewrite<R: Print + AllocGlobal>(
 // `copy PATH LENGTH CHANGES VERSION K WANTED ROOM`
 pub fn copy<R: Print + AllocGlobal>(rt: &R, line: &[u8]) -> io::Result<()> {
     let bytes = sample::path(line);
-    let path = PathBytes {
-        bytes: part::first(&bytes, text::size(line, 3)),
-        version: text::short(line, 5),
-        k: text::short(line, 6),
-    };
-    rewrite(rt, path, text::short(line, 7), text::size(line, 8))
+    rewrite(
+        rt,
+        sample::lent(line, &bytes),
+        text::short(line, 7),
+        text::size(line, 8),
+    )
 }

@@ -1,5 +1,6 @@
 // The sample path, in three versions.
 
+use path::PathBytes;
 use test_support::{part, text};
 
 // A path of version 6 with two stops, -20000, 20000, 0, speed 1, blend 500, dwell 5000, and 10, -1, 256, speed 2000, blend 0, dwell 3. Its records
@@ -27,4 +28,13 @@ pub fn path(line: &[u8]) -> [u8; 60] {
     part::copy(&mut bytes, sample);
     part::change(&mut bytes, text::hex(line, 4));
     bytes
+}
+
+// As much of that path as word 3 of a case lends, as bytes of the version and k of words 5 and 6.
+pub fn lent<'a>(line: &[u8], bytes: &'a [u8]) -> PathBytes<'a> {
+    PathBytes {
+        bytes: part::first(bytes, text::size(line, 3)),
+        version: text::short(line, 5),
+        k: text::short(line, 6),
+    }
 }

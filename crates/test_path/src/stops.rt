@@ -28,9 +28,9 @@ pub fn stop(rt: &impl Print, line: &[u8]) -> io::Result<()> {
     }
 }
 
-// The stop of the six numbers from word `first` on.
-fn given(line: &[u8], first: u8) -> Stop {
-    let i = usize::from(first);
+// The stop of the six numbers from word `at` on.
+fn given(line: &[u8], at: u8) -> Stop {
+    let i = usize::from(at);
     Stop {
         at: [
             coordinate(line, i),

@@ -2,20 +2,10 @@
 
 use crate::lists::Lengths;
 use crate::{sample, stops};
-use base::Refusal;
 use path::PathBytes;
 use std::io;
 use stop::Stops;
-use test_support::write::{self, Numbers};
-use test_support::{count, part, text};
-
-// The answer to the making of a table in this buffer.
-fn answer(rt: &impl Print, made: Result<(), Refusal>, table: &[u32]) -> io::Result<()> {
-    match made {
-        Ok(()) => println!(rt; ": 0, times{}", Numbers(table)),
-        Err(refusal) => write::refusal(rt, refusal, count::all(table, 77)),
-    }
-}
+use test_support::{text, write};
 
 // Makes the table of these stops, of this size, and writes the answer.
 pub fn make<R: Print + AllocGlobal>(
@@ -26,7 +16,7 @@ pub fn make<R: Print + AllocGlobal>(
 ) -> io::Result<()> {
     let mut table = vec![in rt.alloc(); 77u32; size]?;
     let made = times::make_table(k, stops, &mut table);
-    answer(rt, made, &table)
+    write::made(rt, "times", made, &table)
 }
 
 // Makes the table of a path's bytes, of this size, and writes the answer.
@@ -37,7 +27,7 @@ pub fn make_from<R: Print + AllocGlobal>(
 ) -> io::Result<()> {
     let mut table = vec![in rt.alloc(); 77u32; size]?;
     let made = times::table_from(path, &mut table);
-    answer(rt, made, &table)
+    write::made(rt, "times", made, &table)
 }
 
 // `table K X SPEED BLEND DWELL COORDINATES SPEEDS BLENDS DWELLS SIZE`: the stops of the 50 example but for the first one's x and speed and the last
@@ -73,10 +63,5 @@ pub fn pair<R: Print + AllocGlobal>(rt: &R, line: &[u8]) -> io::Result<()> {
 // `from PATH LENGTH CHANGES VERSION K SIZE`
 pub fn from<R: Print + AllocGlobal>(rt: &R, line: &[u8]) -> io::Result<()> {
     let bytes = sample::path(line);
-    let path = PathBytes {
-        bytes: part::first(&bytes, text::size(line, 3)),
-        version: text::short(line, 5),
-        k: text::short(line, 6),
-    };
-    make_from(rt, path, text::size(line, 7))
+    make_from(rt, sample::lent(line, &bytes), text::size(line, 7))
 }

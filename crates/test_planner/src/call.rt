@@ -1,20 +1,21 @@
 // The calls of the planner, and their lines.
 
 use crate::lent::{Lengths, Lent};
-use crate::table;
+use crate::table::Rule;
 use base::Refusal;
 use planner::Planned;
 use std::alloc::{AllocError, Global};
 use std::fmt::{self, Display, Formatter};
 use std::io;
+use test_support::table;
 use test_support::write::Numbers;
 
-// The calls that order stops: a plan, a round trip, and a plan where places cost extra.
+// The calls that order stops: a plan, a round trip, and a plan where places cost extra, by the rule of a second table.
 #[derive(Clone, Copy)]
 pub enum Call {
     Plan,
     Tour,
-    Places,
+    Places(u32),
 }
 
 // The word of a call.
@@ -23,18 +24,17 @@ impl Display for Call {
         match self {
             Call::Plan => write!(f, "plan"),
             Call::Tour => write!(f, "tour"),
-            Call::Places => write!(f, "places"),
+            Call::Places(_) => write!(f, "places"),
         }
     }
 }
 
-// A call for k by tables of two rules, of which only `Places` has the second.
+// A call for k by a table of a rule.
 #[derive(Clone, Copy)]
 pub struct Asked {
     pub call: Call,
     pub k: u16,
     pub rule: u32,
-    pub extra: u32,
 }
 
 // A total, and by how many weighings a plan found it.
@@ -71,7 +71,7 @@ impl Asked {
         match self.call {
             Call::Plan => planner::plan(self.k, table, order, totals, pivots).map(Found::planned),
             Call::Tour => planner::tour(self.k, table, order, totals, pivots).map(Found::total),
-            Call::Places => {
+            Call::Places(_) => {
                 planner::plan_places(self.k, table, places, order, totals, pivots).map(Found::total)
             }
         }
@@ -84,21 +84,24 @@ impl Asked {
         lengths: Lengths,
         lent: &mut Lent,
     ) -> Result<Result<Found, Refusal>, AllocError> {
-        let table = table::make(alloc, lengths.rows, self.rule, lengths.table)?;
-        let places = table::make(alloc, lengths.rows, self.extra, lengths.places)?;
+        let table = table::make(alloc, lengths.rows, lengths.table, Rule(self.rule))?;
+        let places = match self.call {
+            Call::Places(extra) => table::make(alloc, lengths.rows, lengths.places, Rule(extra))?,
+            _ => Vec::new(alloc),
+        };
         Ok(self.answer(&table, &places, lent))
     }
 
     // The beginning of a line: the call, k, the tables' rules, and the lengths of the tables.
     fn title(self, rt: &impl Print, lengths: Lengths) -> io::Result<()> {
-        let Asked { k, rule, extra, .. } = self;
+        let Asked { call, k, rule } = self;
         let size = lengths.table;
-        match self.call {
+        match call {
             Call::Plan => print!(rt; "k {k}, rule {rule}, lent {size}"),
-            Call::Tour => print!(rt; "tour k {k}, rule {rule}, lent {size}"),
-            Call::Places => {
+            Call::Tour => print!(rt; "{call} k {k}, rule {rule}, lent {size}"),
+            Call::Places(extra) => {
                 let places = lengths.places;
-                print!(rt; "places k {k}, rules {rule} {extra}, lent {size} {places}")
+                print!(rt; "{call} k {k}, rules {rule} {extra}, lent {size} {places}")
             }
         }
     }
@@ -127,4 +130,41 @@ pub fn write_found(rt: &impl Print, found: Result<Found, Refusal>) -> io::Result
         }
         Err(refusal) => print!(rt; ": {}", refusal.number()),
     }
+}
+
+// Calls with more than enough lent: k and the rule of each.
+pub fn ruled<R: Print + AllocGlobal>(rt: &R, call: Call, cases: &[(u16, u32)]) -> io::Result<()> {
+    for (k, rule) in cases {
+        let asked = Asked {
+            call,
+            k: *k,
+            rule: *rule,
+        };
+        asked.example(rt, Lengths::enough(*k))?;
+    }
+    Ok(())
+}
+
+// k, and the lengths of the table, of a second one, which only `Places` has, of the order and of the work space.
+pub type Sizes = (u16, usize, usize, usize, usize, usize);
+
+// Calls by tables of four rows of a rule, with so much lent.
+pub fn sized<R: Print + AllocGlobal>(
+    rt: &R,
+    call: Call,
+    rule: u32,
+    cases: &[Sizes],
+) -> io::Result<()> {
+    for (k, table, places, order, totals, pivots) in cases {
+        let lengths = Lengths {
+            rows: 4,
+            table: *table,
+            places: *places,
+            order: *order,
+            totals: *totals,
+            pivots: *pivots,
+        };
+        Asked { call, k: *k, rule }.example(rt, lengths)?;
+    }
+    Ok(())
 }

@@ -4,10 +4,10 @@ ghost use Rattle.std.specs.Prelude.{◌<◌};
 
 use crate::call::{Asked, Call, write_found};
 use crate::lent::{Lengths, Lent};
-use crate::table;
+use crate::table::Rule;
 use std::alloc::{AllocError, Global};
 use std::io;
-use test_support::part;
+use test_support::{part, table};
 
 // 1 where fork v is exchanged, in the mixed set.
 fn exchanged(v: usize) -> usize
@@ -38,7 +38,7 @@ fn stop_in(p: usize) -> usize
 
 // A table of moves that take 5, but those of the planted order, which take `time`.
 fn planted(alloc: Global, time: u32) -> Result<Vec<u32>, AllocError> {
-    let mut table = table::make(alloc, 1024, 8, 1048576)?;
+    let mut table = table::make(alloc, 1024, 1048576, Rule(8))?;
     for p in 1..1024 {
         part::put(&mut table, stop_in(p - 1) * 1024 + stop_in(p), time);
     }
@@ -59,7 +59,6 @@ pub fn at_ten<R: Print + AllocGlobal>(rt: &R, time: u32) -> io::Result<()> {
         call: Call::Plan,
         k: 10,
         rule: 8,
-        extra: 9,
     };
     let lengths = Lengths {
         rows: 1024,

@@ -1,7 +1,5 @@
 // What a call of the planner is lent.
 
-ghost use Rattle.std.specs.Prelude.{◌<◌};
-
 use std::alloc::{AllocError, Global};
 use std::io;
 use test_support::count;
@@ -15,7 +13,6 @@ pub struct Lengths {
     pub order: usize,
     pub totals: usize,
     pub pivots: usize,
-    ghost has_rows: { 0 < rows },
 }
 
 impl Lengths {
@@ -48,7 +45,7 @@ pub struct Lent {
 }
 
 impl Lent {
-    // Buffers of these lengths, in which every place holds 77.
+    // Buffers of these lengths, in which every place holds 77. Other programs lend other buffers: one generic struct would lose their names.
     pub fn new(alloc: Global, lengths: Lengths) -> Result<Lent, AllocError> {
         Ok(Lent {
             order: vec![in alloc; 77; lengths.order]?,

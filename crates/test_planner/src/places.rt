@@ -1,18 +1,8 @@
 // Plans where places cost extra.
 
-use crate::call::{Asked, Call};
+use crate::call::{self, Asked, Call, Sizes};
 use crate::lent::Lengths;
 use std::io;
-
-// A plan for k by the rules of two tables.
-fn plan(k: u16, rule: u32, extra: u32) -> Asked {
-    Asked {
-        call: Call::Places,
-        k,
-        rule,
-        extra,
-    }
-}
 
 // k and the rules of the two tables. A second table all zero, and one that is the same everywhere: the plain order, and ties as before.
 const SAME: [(u16, u32, u32); 11] = [
@@ -55,8 +45,8 @@ const RULED: [(u16, u32, u32); 9] = [
     (4, 9, 2),
 ];
 
-// k, and the lengths of both tables, the order and the work space: every length is enough but one or two, and k above 10 is found first.
-const REFUSED: [(u16, usize, usize, usize, usize, usize); 15] = [
+// Every length is enough but one or two, and k above 10 is found first.
+const REFUSED: [Sizes; 15] = [
     (2, 15, 16, 4, 8, 8),
     (2, 17, 16, 4, 8, 8),
     (2, 16, 15, 4, 8, 8),
@@ -77,23 +67,12 @@ const REFUSED: [(u16, usize, usize, usize, usize, usize); 15] = [
 // The plans by rules.
 fn ruled<R: Print + AllocGlobal>(rt: &R, cases: &[(u16, u32, u32)]) -> io::Result<()> {
     for (k, rule, extra) in cases {
-        plan(*k, *rule, *extra).example(rt, Lengths::enough(*k))?;
-    }
-    Ok(())
-}
-
-// The plans that are refused.
-fn refused<R: Print + AllocGlobal>(rt: &R) -> io::Result<()> {
-    for (k, table, places, order, totals, pivots) in REFUSED {
-        let lengths = Lengths {
-            rows: 4,
-            table,
-            places,
-            order,
-            totals,
-            pivots,
+        let asked = Asked {
+            call: Call::Places(*extra),
+            k: *k,
+            rule: *rule,
         };
-        plan(k, 7, 10).example(rt, lengths)?;
+        asked.example(rt, Lengths::enough(*k))?;
     }
     Ok(())
 }
@@ -103,5 +82,5 @@ pub fn run<R: Print + AllocGlobal>(rt: &R) -> io::Result<()> {
     ruled(rt, &SAME)?;
     ruled(rt, &CHANGED)?;
     ruled(rt, &RULED)?;
-    refused(rt)
+    call::sized(rt, Call::Places(10), 7, &REFUSED)
 }

@@ -1,7 +1,6 @@
 // What each k foretells, and plans.
 
-use crate::call::{Asked, Call};
-use crate::lent::Lengths;
+use crate::call::{self, Call, Sizes};
 use planner::Foretold;
 use std::io;
 
@@ -12,16 +11,6 @@ fn foretell(rt: &impl Print, k: u16) -> io::Result<()> {
             println!(rt; "k {k}: bytes {bytes}, weighings {weighings}")
         }
         Err(refusal) => println!(rt; "k {k}: {}", refusal.number()),
-    }
-}
-
-// A plan for k by a rule.
-fn plan(k: u16, rule: u32) -> Asked {
-    Asked {
-        call: Call::Plan,
-        k,
-        rule,
-        extra: 9,
     }
 }
 
@@ -46,17 +35,17 @@ const RULED: [(u16, u32); 17] = [
     (4, 3),
 ];
 
-// k, and the lengths of the table, the order and the work space: every length is enough but one, and k above 10 is found first.
-const REFUSED: [(u16, usize, usize, usize, usize); 9] = [
-    (2, 15, 4, 8, 8),
-    (2, 17, 4, 8, 8),
-    (2, 16, 3, 8, 8),
-    (2, 16, 4, 7, 8),
-    (2, 16, 4, 8, 7),
-    (2, 16, 4, 8, 8),
-    (10, 16, 4, 8, 8),
-    (11, 16, 4, 8, 8),
-    (65535, 16, 4, 8, 8),
+// Every length is enough but one, and k above 10 is found first.
+const REFUSED: [Sizes; 9] = [
+    (2, 15, 0, 4, 8, 8),
+    (2, 17, 0, 4, 8, 8),
+    (2, 16, 0, 3, 8, 8),
+    (2, 16, 0, 4, 7, 8),
+    (2, 16, 0, 4, 8, 7),
+    (2, 16, 0, 4, 8, 8),
+    (10, 16, 0, 4, 8, 8),
+    (11, 16, 0, 4, 8, 8),
+    (65535, 16, 0, 4, 8, 8),
 ];
 
 // All calls.
@@ -65,30 +54,6 @@ pub fn run<R: Print + AllocGlobal>(rt: &R) -> io::Result<()> {
         foretell(rt, k)?;
     }
     foretell(rt, 65535)?;
-    ruled(rt)?;
-    refused(rt)
-}
-
-// The plans by rules.
-fn ruled<R: Print + AllocGlobal>(rt: &R) -> io::Result<()> {
-    for (k, rule) in RULED {
-        plan(k, rule).example(rt, Lengths::enough(k))?;
-    }
-    Ok(())
-}
-
-// The plans that are refused.
-fn refused<R: Print + AllocGlobal>(rt: &R) -> io::Result<()> {
-    for (k, table, order, totals, pivots) in REFUSED {
-        let lengths = Lengths {
-            rows: 4,
-            table,
-            places: 0,
-            order,
-            totals,
-            pivots,
-        };
-        plan(k, 0).example(rt, lengths)?;
-    }
-    Ok(())
+    call::ruled(rt, Call::Plan, &RULED)?;
+    call::sized(rt, Call::Plan, 0, &REFUSED)
 }

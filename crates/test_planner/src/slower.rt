@@ -8,74 +8,61 @@ use std::io;
 use test_support::part;
 use test_support::write::Numbers;
 
-// The rules of a call's tables.
-type Rules = (u32, u32);
+// A call, and the rule of its table.
+type Ruled = (Call, u32);
 
-// The same amount more: a call, k, and the rules before and after it. In plans off the diagonal, and another diagonal: the same order, at n - 1 times
+// The same amount more: k, and a call by the tables before and after it. In plans off the diagonal, and another diagonal: the same order, at n - 1 times
 // the amount more. In tours n times the amount more, and for n = 1 nothing. Of places that cost extra the first table slower, the second more by the
 // same everywhere, and both.
-const SLOWER: [(Call, u16, Rules, Rules); 13] = [
-    (Call::Plan, 0, (0, 9), (100, 9)),
-    (Call::Plan, 1, (4, 9), (104, 9)),
-    (Call::Plan, 2, (7, 9), (107, 9)),
-    (Call::Plan, 2, (2, 9), (102, 9)),
-    (Call::Plan, 3, (3, 9), (103, 9)),
-    (Call::Tour, 0, (2, 9), (102, 9)),
-    (Call::Tour, 1, (4, 9), (104, 9)),
-    (Call::Tour, 2, (7, 9), (107, 9)),
-    (Call::Tour, 3, (3, 9), (103, 9)),
-    (Call::Places, 2, (7, 10), (107, 10)),
-    (Call::Places, 2, (7, 10), (7, 210)),
-    (Call::Places, 2, (7, 10), (107, 210)),
-    (Call::Places, 0, (0, 2), (100, 202)),
+const SLOWER: [(u16, Ruled, Ruled); 13] = [
+    (0, (Call::Plan, 0), (Call::Plan, 100)),
+    (1, (Call::Plan, 4), (Call::Plan, 104)),
+    (2, (Call::Plan, 7), (Call::Plan, 107)),
+    (2, (Call::Plan, 2), (Call::Plan, 102)),
+    (3, (Call::Plan, 3), (Call::Plan, 103)),
+    (0, (Call::Tour, 2), (Call::Tour, 102)),
+    (1, (Call::Tour, 4), (Call::Tour, 104)),
+    (2, (Call::Tour, 7), (Call::Tour, 107)),
+    (3, (Call::Tour, 3), (Call::Tour, 103)),
+    (2, (Call::Places(10), 7), (Call::Places(10), 107)),
+    (2, (Call::Places(10), 7), (Call::Places(210), 7)),
+    (2, (Call::Places(10), 7), (Call::Places(210), 107)),
+    (0, (Call::Places(2), 0), (Call::Places(202), 100)),
 ];
 
 // Some entries raised: no total is smaller, but the order may be another.
-const RAISED: [(Call, u16, Rules, Rules); 5] = [
-    (Call::Plan, 2, (7, 9), (307, 9)),
-    (Call::Tour, 2, (4, 9), (304, 9)),
-    (Call::Places, 2, (7, 10), (307, 10)),
-    (Call::Places, 2, (7, 11), (7, 311)),
-    (Call::Plan, 2, (9, 9), (10, 9)),
+const RAISED: [(u16, Ruled, Ruled); 5] = [
+    (2, (Call::Plan, 7), (Call::Plan, 307)),
+    (2, (Call::Tour, 4), (Call::Tour, 304)),
+    (2, (Call::Places(10), 7), (Call::Places(10), 307)),
+    (2, (Call::Places(11), 7), (Call::Places(311), 7)),
+    (2, (Call::Plan, 9), (Call::Plan, 10)),
 ];
+
+// A call for k.
+fn asked(k: u16, ruled: Ruled) -> Asked {
+    let (call, rule) = ruled;
+    Asked { call, k, rule }
+}
 
 // The total that a call answers, in these buffers; nothing is refused here.
 fn total(alloc: Global, asked: Asked, lent: &mut Lent) -> Result<u64, AllocError> {
-    match asked.by_rules(alloc, Lengths::enough(asked.k), lent)? {
-        Ok(found) => Ok(found.total),
-        Err(_) => Ok(0),
-    }
+    let found = asked.by_rules(alloc, Lengths::enough(asked.k), lent)?;
+    Ok(found.map_or(0, |found| found.total))
 }
 
 // The rules of the tables, of which only `Places` has two.
 fn write_rules(rt: &impl Print, asked: Asked) -> io::Result<()> {
     match asked.call {
-        Call::Places => print!(rt; " {} {}", asked.rule, asked.extra),
+        Call::Places(extra) => print!(rt; " {} {extra}", asked.rule),
         _ => print!(rt; " {}", asked.rule),
     }
 }
 
-// One call by tables of two rules, then by those of two others, and the line.
-fn line<R: Print + AllocGlobal>(
-    rt: &R,
-    call: Call,
-    k: u16,
-    rules: Rules,
-    later: Rules,
-) -> io::Result<()> {
+// One call, then the same by other tables, and the line.
+fn line<R: Print + AllocGlobal>(rt: &R, asked: Asked, then: Asked) -> io::Result<()> {
+    let Asked { call, k, .. } = asked;
     let lengths = Lengths::enough(k);
-    let asked = Asked {
-        call,
-        k,
-        rule: rules.0,
-        extra: rules.1,
-    };
-    let then = Asked {
-        call,
-        k,
-        rule: later.0,
-        extra: later.1,
-    };
     let mut lent = Lent::new(rt.alloc(), lengths)?;
     let mut lent_then = Lent::new(rt.alloc(), lengths)?;
     let total_first = total(rt.alloc(), asked, &mut lent)?;
@@ -94,11 +81,11 @@ fn line<R: Print + AllocGlobal>(
 fn lines<R: Print + AllocGlobal>(
     rt: &R,
     word: &str,
-    cases: &[(Call, u16, Rules, Rules)],
+    cases: &[(u16, Ruled, Ruled)],
 ) -> io::Result<()> {
-    for (call, k, rules, later) in cases {
+    for (k, ruled, later) in cases {
         print!(rt; "{word}")?;
-        line(rt, *call, *k, *rules, *later)?;
+        line(rt, asked(*k, *ruled), asked(*k, *later))?;
     }
     Ok(())
 }

@@ -1,20 +1,6 @@
-// Tables of travel times, by a rule.
+// Tables of travel times, by a rule. Two stops stay two numbers here: a rule is a formula of both, and a struct of them would be taken apart at once.
 
-ghost use Rattle.std.specs.Prelude.{◌<◌};
-
-use std::alloc::{AllocError, Global};
-
-// The x of the four stops of document 01's example with the total 50.
-fn x_of(stop: u32) -> u32
-    ensures { result < 31 }
-{
-    match stop {
-        0 => 0,
-        1 => 30,
-        2 => 10,
-        _ => 20,
-    }
-}
+use test_support::table::{self, fifty};
 
 // `low` to a larger stop, and `high` to any other.
 fn by_side(a: u32, b: u32, low: u32, high: u32) -> u32 {
@@ -28,7 +14,7 @@ fn at(a: u32, b: u32, row: u32, column: u32) -> u32 {
 
 // The entry from stop a to stop b by a rule: 0 has 1 everywhere; 1, 2 and 3 are not symmetric, 2 has large entries and 3 few values, so many
 // ties; 4, 5 and 6 are document 01's for two stops, 7 its example with the total 50; 9 has 0 everywhere; 10 and 11 have 10 in one place of a table of
-// four rows; any other has 5 everywhere.
+// four rows; any other has 5 everywhere. A `match` on the rule stays: each arm is one formula.
 fn entry(rule: u32, a: u32, b: u32) -> u32 {
     let x = a % 1024;
     let y = b % 1024;
@@ -39,7 +25,7 @@ fn entry(rule: u32, a: u32, b: u32) -> u32 {
         3 => (2 * x + y / 3 + (5 * x + 3 * y) / 7) % 3,
         4 => by_side(x, y, 3, 7),
         5 => by_side(x, y, 7, 3),
-        7 => x_of(x).abs_diff(x_of(y)),
+        7 => fifty(x as usize, y as usize),
         9 => 0,
         10 => at(x, y, 0, 3),
         11 => at(x, y, 2, 0),
@@ -57,25 +43,19 @@ fn slower(a: u32, b: u32, entry: u32) -> u32 {
     if a == b { 99 } else { raised(entry, 7) }
 }
 
-// The entry by a rule, whose hundreds say what is more than by the rule without them: with 100 it is 7 off the diagonal, on which 99 stands, with 200
-// it is 7 everywhere, with 300 it is 5 where the column is not larger than the row.
-fn changed(rule: u32, a: u32, b: u32) -> u32 {
-    let entry = entry(rule % 100, a, b);
-    match rule / 100 {
-        0 => entry,
-        1 => slower(a, b, entry),
-        2 => raised(entry, 7),
-        _ => raised(entry, by_side(a, b, 0, 5)),
-    }
-}
+// A rule by its number, whose hundreds say what is more than by the rule without them: with 100 it is 7 off the diagonal, on which 99 stands, with 200 it
+// is 7 everywhere, with 300 it is 5 where the column is not larger than the row.
+#[derive(Clone, Copy)]
+pub struct Rule(pub u32);
 
-// The table of n rows by a rule, of this size.
-pub fn make(alloc: Global, n: usize, rule: u32, size: usize) -> Result<Vec<u32>, AllocError>
-    requires { 0 < n }
-{
-    let mut table = vec![in alloc; 0u32; size]?;
-    for (i, time) in table.iter_mut().enumerate() {
-        *time = changed(rule, (i / n % 1024) as u32, (i % n % 1024) as u32);
+impl table::Rule for Rule {
+    fn entry(self, a: u32, b: u32) -> u32 {
+        let entry = entry(self.0 % 100, a, b);
+        match self.0 / 100 {
+            0 => entry,
+            1 => slower(a, b, entry),
+            2 => raised(entry, 7),
+            _ => raised(entry, by_side(a, b, 0, 5)),
+        }
     }
-    Ok(table)
 }

@@ -1,18 +1,7 @@
 // Round trips.
 
-use crate::call::{Asked, Call};
-use crate::lent::Lengths;
+use crate::call::{self, Call, Sizes};
 use std::io;
-
-// A round trip for k by a rule.
-fn tour(k: u16, rule: u32) -> Asked {
-    Asked {
-        call: Call::Tour,
-        k,
-        rule,
-        extra: 9,
-    }
-}
 
 // k and the rule. For n = 1 the total is 0 whatever the diagonal; for n = 2 the tour is 1, 0 whatever the table.
 const SMALL: [(u16, u32); 7] = [(0, 0), (0, 2), (0, 9), (1, 2), (1, 3), (1, 4), (1, 5)];
@@ -45,51 +34,27 @@ const RULED: [(u16, u32); 11] = [
     (4, 4),
 ];
 
-// k, and the lengths of the table, the order and the work space: every length is enough but one or two, and k above 7 is found first.
-const REFUSED: [(u16, usize, usize, usize, usize); 13] = [
-    (2, 15, 4, 8, 8),
-    (2, 17, 4, 8, 8),
-    (2, 16, 3, 8, 8),
-    (2, 16, 4, 7, 8),
-    (2, 16, 4, 8, 7),
-    (2, 17, 3, 8, 8),
-    (2, 16, 4, 8, 8),
-    (7, 16, 4, 8, 8),
-    (8, 16, 4, 8, 8),
-    (8, 15, 3, 7, 7),
-    (10, 16, 4, 8, 8),
-    (11, 16, 4, 8, 8),
-    (65535, 15, 4, 8, 8),
+// Every length is enough but one or two, and k above 7 is found first.
+const REFUSED: [Sizes; 13] = [
+    (2, 15, 0, 4, 8, 8),
+    (2, 17, 0, 4, 8, 8),
+    (2, 16, 0, 3, 8, 8),
+    (2, 16, 0, 4, 7, 8),
+    (2, 16, 0, 4, 8, 7),
+    (2, 17, 0, 3, 8, 8),
+    (2, 16, 0, 4, 8, 8),
+    (7, 16, 0, 4, 8, 8),
+    (8, 16, 0, 4, 8, 8),
+    (8, 15, 0, 3, 7, 7),
+    (10, 16, 0, 4, 8, 8),
+    (11, 16, 0, 4, 8, 8),
+    (65535, 15, 0, 4, 8, 8),
 ];
-
-// The tours by rules.
-fn ruled<R: Print + AllocGlobal>(rt: &R, cases: &[(u16, u32)]) -> io::Result<()> {
-    for (k, rule) in cases {
-        tour(*k, *rule).example(rt, Lengths::enough(*k))?;
-    }
-    Ok(())
-}
-
-// The tours that are refused.
-fn refused<R: Print + AllocGlobal>(rt: &R) -> io::Result<()> {
-    for (k, table, order, totals, pivots) in REFUSED {
-        let lengths = Lengths {
-            rows: 4,
-            table,
-            places: 0,
-            order,
-            totals,
-            pivots,
-        };
-        tour(k, 7).example(rt, lengths)?;
-    }
-    Ok(())
-}
 
 // All calls.
 pub fn run<R: Print + AllocGlobal>(rt: &R) -> io::Result<()> {
-    ruled(rt, &SMALL)?;
-    ruled(rt, &CLOSED)?;
-    ruled(rt, &RULED)?;
-    refused(rt)
+    call::ruled(rt, Call::Tour, &SMALL)?;
+    call::ruled(rt, Call::Tour, &CLOSED)?;
+    call::ruled(rt, Call::Tour, &RULED)?;
+    call::sized(rt, Call::Tour, 7, &REFUSED)
 }

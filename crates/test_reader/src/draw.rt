@@ -2,6 +2,7 @@
 use path::HEAD_SIZE;
 use reader::{Drawn, Reader};
 use std::io;
+use std::ops::Range;
 use stop::{Stop, Stops};
 use test_support::write::Hex;
 
@@ -32,69 +33,77 @@ fn write_drawn(rt: &impl Print, drawn: Drawn) -> io::Result<()> {
     }
 }
 
-// The first 7 draws of a reader, one after another.
-fn draws(rt: &impl Print, bytes: &[u8], highest: u16) -> io::Result<()> {
-    let mut reader = Reader::open(bytes, highest);
-    for _ in 0..7 {
-        write_drawn(rt, reader.draw())?;
-    }
-    Ok(())
-}
-
-// The draws from one number up to another.
-pub fn numbered(
-    rt: &impl Print,
-    bytes: &[u8],
+// A path's bytes, and the highest version that their reader knows.
+#[derive(Clone, Copy)]
+pub struct Given<'a> {
+    bytes: &'a [u8],
     highest: u16,
-    first: usize,
-    end: usize,
-) -> io::Result<()> {
-    for number in first..end {
-        write_drawn(rt, reader::draw_number(bytes, highest, number))?;
-    }
-    Ok(())
 }
 
-// The whole reading with places for 4 stops.
-fn whole(rt: &impl Print, bytes: &[u8], highest: u16) -> io::Result<()> {
-    let mut coords = [0i32; 12];
-    let mut speeds = [0u16; 4];
-    let mut blends = [0u16; 4];
-    let mut dwells = [0u16; 4];
-    let read = path::read_path(
-        bytes,
-        highest,
-        &mut coords,
-        &mut speeds,
-        &mut blends,
-        &mut dwells,
-    );
-    match read {
-        Ok(heading) => {
-            let stops = Stops {
-                coords: &coords,
-                speeds: &speeds,
-                blends: &blends,
-                dwells: &dwells,
-            };
-            for i in 0..base::stop_count(heading.k).min(4) {
-                write_stop(rt, stops.at(i))?;
-            }
-            print!(rt; " end")
+impl<'a> Given<'a> {
+    // These bytes for that reader.
+    pub fn of(bytes: &'a [u8], highest: u16) -> Given<'a> {
+        Given { bytes, highest }
+    }
+
+    // The first 7 draws of a reader, one after another.
+    fn draws(self, rt: &impl Print) -> io::Result<()> {
+        let mut reader = Reader::open(self.bytes, self.highest);
+        for _ in 0..7 {
+            write_drawn(rt, reader.draw())?;
         }
-        Err(refusal) => print!(rt; " refused {}", refusal.number()),
+        Ok(())
     }
-}
 
-// The draws of a reader, the same by their numbers, and under them the whole reading.
-pub fn both(rt: &impl Print, bytes: &[u8], highest: u16) -> io::Result<()> {
-    print!(rt; "\n  draws:")?;
-    draws(rt, bytes, highest)?;
-    print!(rt; "\n  by number:")?;
-    numbered(rt, bytes, highest, 0, 7)?;
-    print!(rt; "\n  whole:")?;
-    whole(rt, bytes, highest)?;
-    println!(rt; "")
+    // The draws by these numbers.
+    pub fn numbered(self, rt: &impl Print, numbers: Range<usize>) -> io::Result<()> {
+        for number in numbers {
+            write_drawn(rt, reader::draw_number(self.bytes, self.highest, number))?;
+        }
+        Ok(())
+    }
+
+    // The whole reading with places for 4 stops.
+    fn whole(self, rt: &impl Print) -> io::Result<()> {
+        let mut coords = [0i32; 12];
+        let mut speeds = [0u16; 4];
+        let mut blends = [0u16; 4];
+        let mut dwells = [0u16; 4];
+        let read = path::read_path(
+            self.bytes,
+            self.highest,
+            &mut coords,
+            &mut speeds,
+            &mut blends,
+            &mut dwells,
+        );
+        match read {
+            Ok(heading) => {
+                let stops = Stops {
+                    coords: &coords,
+                    speeds: &speeds,
+                    blends: &blends,
+                    dwells: &dwells,
+                };
+                for i in 0..base::stop_count(heading.k).min(4) {
+                    write_stop(rt, stops.at(i))?;
+                }
+                print!(rt; " end")
+            }
+            Err(refusal) => print!(rt; " refused {}", refusal.number()),
+        }
+    }
+
+    // The draws of a reader, the same by their numbers, and under them the whole reading.
+    pub fn both(self, rt: &impl Print) -> io::Result<()> {
+        print!(rt; "\n  draws:")?;
+        self.draws(rt)?;
+        print!(rt; "\n  by number:")?;
+        self.numbered(rt, 0..7)?;
+        print!(rt; "\n  whole:")?;
+        self.whole(rt)?;
+        println!(rt; "")
+    }
 }
 
 // One draw from a cursor, and the cursor and the version that it leaves.

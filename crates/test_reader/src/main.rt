@@ -5,6 +5,7 @@
 
 mod draw;
 
+use draw::Given;
 use std::io;
 use stop::Stops;
 use test_support::part;
@@ -39,7 +40,7 @@ fn older(version: u16) -> [u8; 53] {
 fn cuts(rt: &impl Print) -> io::Result<()> {
     for length in 0..101 {
         print!(rt; "cut at {length}")?;
-        draw::both(rt, part::first(&good(), length), 6)?;
+        Given::of(part::first(&good(), length), 6).both(rt)?;
     }
     Ok(())
 }
@@ -49,7 +50,7 @@ fn damaged(rt: &impl Print, at: usize, value: u8) -> io::Result<()> {
     let mut bytes = good();
     part::put(&mut bytes, at, value);
     print!(rt; "byte {at} is {value}")?;
-    draw::both(rt, &bytes, 6)
+    Given::of(&bytes, 6).both(rt)
 }
 
 // The path with 11 in each byte, one at a time, and with a field just out of range.
@@ -84,7 +85,7 @@ const OLDER: [(u16, usize, u16); 12] = [
 fn versions(rt: &impl Print) -> io::Result<()> {
     for (version, length, highest) in OLDER {
         print!(rt; "version {version}, {length} bytes, highest {highest}")?;
-        draw::both(rt, part::first(&older(version), length), highest)?;
+        Given::of(part::first(&older(version), length), highest).both(rt)?;
     }
     Ok(())
 }
@@ -93,7 +94,7 @@ fn versions(rt: &impl Print) -> io::Result<()> {
 fn known(rt: &impl Print) -> io::Result<()> {
     for highest in [4, 5, 7] {
         print!(rt; "version 6, highest {highest}")?;
-        draw::both(rt, &good(), highest)?;
+        Given::of(&good(), highest).both(rt)?;
     }
     Ok(())
 }
@@ -135,7 +136,7 @@ fn large(rt: &impl Print) -> io::Result<()> {
     let _written = path::write_path(6, 10, stops, &mut bytes);
     for length in [22540, 22541, 22539, 22535] {
         print!(rt; "1024 stops, {length} bytes:")?;
-        draw::numbered(rt, part::first(&bytes, length), 6, 1022, 1027)?;
+        Given::of(part::first(&bytes, length), 6).numbered(rt, 1022..1027)?;
         println!(rt; "")?;
     }
     Ok(())

@@ -4,7 +4,7 @@ use crate::paths;
 use base::Refusal;
 use std::io;
 use test_support::cases::Cases;
-use test_support::write::Numbers;
+use test_support::write::{self, Numbers};
 use test_support::{part, text};
 
 // The bytes of a path, an order and sums.
@@ -62,10 +62,7 @@ impl Session {
 
     // The answer, and every place.
     fn answer(&self, rt: &impl Print, made: Result<(), Refusal>) -> io::Result<()> {
-        match made {
-            Ok(()) => print!(rt; ": 0")?,
-            Err(refusal) => print!(rt; ": {}", refusal.number())?,
-        }
+        write::number(rt, made)?;
         println!(rt;
             ", order{}, sums{}",
             Numbers(&self.order),

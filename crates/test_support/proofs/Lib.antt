@@ -1,2 +1,3 @@
--- Laws of text.
+-- Laws of text and of signed numbers.
 mod Fields
+mod Folded

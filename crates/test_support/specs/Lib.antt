@@ -2,5 +2,6 @@
 pub mod Bytes
 pub mod Change
 pub mod Count
+pub mod Fifty
 pub mod Sum
 pub mod Text

@@ -3,7 +3,8 @@
 use crate::text;
 use std::io;
 
-// What a program does with a case, and what it keeps from one case to the next.
+// What a program does with a case, and what it keeps from one case to the next. The handle and the line stay two parameters, here and in the
+// programs' calls: a handle is passed on by itself wherever something is written, and a struct of both would be taken apart there.
 pub trait Cases {
     // Runs a case with this first letter, and ends its line, which begins with its name.
     fn run<R: Print + AllocGlobal>(&mut self, rt: &R, letter: u8, line: &[u8]) -> io::Result<()>;
@@ -19,7 +20,7 @@ fn run_line<R: Print + AllocGlobal>(rt: &R, cases: &mut impl Cases, line: &[u8])
     cases.run(rt, letter, line)
 }
 
-// All lines of standard input.
+// All lines of standard input. The `main` of a program is one call of this with the cases that are its own.
 pub fn run_all<R: Input + Print + AllocGlobal>(rt: &R, cases: &mut impl Cases) -> io::Result<()> {
     let text = io::read_to_string(rt.alloc(), rt.reader())?;
     for line in text.as_str().lines() {

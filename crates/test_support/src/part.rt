@@ -62,8 +62,7 @@ fn change_one(bytes: &mut [u8], change: u64)
 pub fn change(bytes: &mut [u8], changes: u64)
     ensures { bytes.new ≡ changed changes bytes.old }
 {
-    change_one(bytes, changes / 281474976710656 % 65536);
-    change_one(bytes, changes / 4294967296 % 65536);
-    change_one(bytes, changes / 65536 % 65536);
-    change_one(bytes, changes % 65536);
+    for shift in [48u32, 32, 16, 0] {
+        change_one(bytes, (changes >> shift) % 65536);
+    }
 }

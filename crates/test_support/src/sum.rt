@@ -45,6 +45,7 @@ impl Number for u64 {
 impl Number for i32 {
     ghost weight = { folded };
 
+    #[tactic(auto, using(crate::proofs::Folded::folded_below, crate::proofs::Folded::folded_above))]
     fn weight(self) -> u64 {
         let size = u64::from(self.unsigned_abs()) * 2;
         if self < 0 { size - 1 } else { size }

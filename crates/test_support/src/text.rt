@@ -1,4 +1,5 @@
-// Text: its fields between separators, and the words and numbers of a line 'name: word word 12 ..'.
+// Text: its fields between separators, and the words and numbers of a line 'name: word word 12 ..'. A line and a word's number stay two parameters: a
+// struct of both would be made at each call only to be read.
 ghost use Rattle.std.specs.Prelude.{◌≡◌, ◌%◌, ◌^◌, ◌≤◌, get_or};
 ghost use Rattle.test_support.specs.Text.{field_of, word_of, digit_of, with_digit, number_of};
 
@@ -55,7 +56,7 @@ fn read(digits: &[u8], base: u64) -> u64
         .fold(0, |number, byte| with_digit(base, number, *byte))
 }
 
-// The number in word i, in decimal.
+// The number in word i, in decimal. Beside it `hex` is one line too: a base at each call that reads a number would say no more than the two names.
 pub fn number(line: &[u8], i: usize) -> u64
     ensures { result ≡ number_of 10 (word_of i line.now) }
 {
@@ -69,7 +70,8 @@ pub fn hex(line: &[u8], i: usize) -> u64
     read(word(line, i), 16)
 }
 
-// The decimal number in word i as a byte.
+// The decimal number in word i as a byte. Beside it `short` is one line too: no trait of the library cuts a number to a width, and a trait here would
+// hold the same two lines.
 pub fn byte(line: &[u8], i: usize) -> u8
     ensures { result ≡ number_of 10 (word_of i line.now) % 2 ^ 8 }
 {

@@ -1,5 +1,5 @@
 -- Laws of times of path bytes: of judged bytes they are the times between the stops that the bytes mean.
-use mathlib.Core.Path.{◌≡◌, refl, ap₂, ◌∙◌}
+use mathlib.Core.Path.{◌≡◌, refl}
 use mathlib.Core.Bool.{Bool, true, false, cond, ◌&&◌}
 use mathlib.Core.List.{List}
 use Prim.Native.Nat.{ℕ, ◌+◌, ◌≤◌, ◌<◌}
@@ -52,6 +52,3 @@ zero-time i j = by_number (eqb i j)
     by_number : (same : Bool) → cond same 0 (value 0 (move_time zero_stop zero_stop)) ≡ 0
     by_number true = refl
     by_number false = refl
-
-pub time-nowhere : (version : ℕ) (bytes : List ℕ) → length bytes ≡ 0 → (from to : ℕ) → time_in version bytes from to ≡ 0
-time-nowhere version bytes e from to = ap₂ (λ a b. time_of from a to b) (stop-nowhere version from bytes e) (stop-nowhere version to bytes e) ∙ zero-time from to

@@ -4,7 +4,7 @@ ghost use Rattle.std.specs.Prelude.{◌≡◌, true, ℕ, ◌+◌, ◌*◌, ◌<
 ghost use Rattle.stop.specs.Stop.{in_range};
 ghost use Rattle.times.specs.Columns.{FourInRange, set_each, in_column, on_diagonal, times_from};
 
-use crate::travel;
+use crate::travel::Move;
 use stop::Stop;
 
 // Writes the times of the moves from four stops to another, in column `to` of four rows of n.
@@ -14,7 +14,11 @@ pub fn write_column(four: [Stop; 4], stop: Stop, n: usize, to: usize, block: &mu
     ensures { block.new ≡ set_each block.old (in_column 0 n to) (times_from four stop) 4 }
 {
     for (r, from) in four.iter().enumerate() {
-        block[r * n + to] = travel::time(*from, stop);
+        let way = Move {
+            from: *from,
+            to: stop,
+        };
+        block[r * n + to] = way.time();
     }
 }
 
@@ -23,6 +27,7 @@ pub fn write_diagonal(n: usize, from: usize, block: &mut [u32])
     requires { (from + 4 ≤ n) × (length block.old ≡ 4 * n) }
     ensures { block.new ≡ set_each block.old (on_diagonal 0 n from) (λ i. 0) 4 }
 {
+    // The number is a row and a column at once, so that it stays one.
     for r in 0..4 {
         block[r * n + from + r] = 0;
     }

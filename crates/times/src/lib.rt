@@ -23,6 +23,7 @@ pub use moves::sum_in;
 use path::PathBytes;
 use source::Judged;
 use stop::{Stop, Stops};
+use travel::Move;
 
 // The time of a move between two stops in milliseconds; 6 where one is out of range.
 pub fn move_time(from: Stop, to: Stop) -> Result<u32, Refusal>
@@ -30,7 +31,7 @@ pub fn move_time(from: Stop, to: Stop) -> Result<u32, Refusal>
 {
     from.judge()?;
     to.judge()?;
-    Ok(travel::time(from, to))
+    Ok(Move { from, to }.time())
 }
 
 // The refusal 5 of a k above 10, or 8 of a table of `size` places that is not n² long.

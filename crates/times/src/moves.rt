@@ -7,7 +7,7 @@ ghost use Rattle.tree.specs.Total.{total};
 ghost use Rattle.times.specs.InPath.{time_of, time_in};
 ghost use Rattle.times.specs.Summing.{sum_in, StopOf};
 
-use crate::travel;
+use crate::travel::Move;
 use base::Refusal;
 use path::PathBytes;
 use stop::Stop;
@@ -50,7 +50,11 @@ fn time_judged(n: usize, from: Place, to: Place) -> u32
     if from.number == to.number || n <= from.number || n <= to.number {
         0
     } else {
-        travel::time(from.stop, to.stop)
+        let way = Move {
+            from: from.stop,
+            to: to.stop,
+        };
+        way.time()
     }
 }
 

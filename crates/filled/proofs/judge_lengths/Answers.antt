@@ -1,11 +1,9 @@
 -- `filled::judge_lengths` meets its contract.
 use mathlib.Core.Path.{◌≡◌}
 use Prim.Native.Nat.{◌^◌}
-use native.Mathlib.Omega.{arith}
 use borrow.Author.Tests.{le-leb, lt-leb, eq-eqb, ne_eqb}
 use Rattle.filled.specs.Filled.{lengths_first, list_fits}
 use Rattle.filled.proofs.Judged.{small-count}
-use Rattle.filled.proofs.Loops.{square-small}
 use Rattle.filled.proofs.judge_lengths.Goals as goal
 use Rattle.filled.proofs.judge_lengths.Goals.{
   then-table-n-via-then-table-n,
@@ -14,14 +12,6 @@ use Rattle.filled.proofs.judge_lengths.Goals.{
   then-table-n-via-else-table-n+else-empties-n+else-list-n+then-bits-n,
   then-table-n-via-else-table-n+else-empties-n+else-list-n+else-bits-n+then-work-n,
 }
-
-pub returns-then-k-gt-MAX_FILLED_K : goal.returns-then-k-gt-MAX_FILLED_K
-unfolding lengths_first
-returns-then-k-gt-MAX_FILLED_K c = rw (lt-leb _ _ c.if-k-gt-MAX_FILLED_K.true)
-
-pub overflow_mul-n : goal.overflow_mul-n
-overflow_mul-n c =
-    omega (arith, square-small c.stop_count-n.result (small-count _ _ c.if-k-gt-MAX_FILLED_K.false c.stop_count-n.ensures).1)
 
 pub returns-then-table-n : goal.returns-then-table-n
 unfolding lengths_first list_fits

@@ -1,28 +1,30 @@
 -- `filled::run` meets its contract.
 use mathlib.Core.Path.{refl, sym, ap, ◌∙◌}
-use Prim.Native.Nat.{ℕ}
+use Prim.Native.Nat.{ℕ, ◌≤◌}
 use native.Mathlib.Omega.{arith}
 use lib.Count.{ones, ones-le}
-use lib.ListN.{replicate}
+use lib.ListN.{length, replicate}
 use lib.Seq.{length-take-le}
 use Rattle.std.proofs.Common.{rules}
 use Rattle.filled.proofs.Judged.{run-list, run-below, run-written}
 use Rattle.filled.proofs.run.Goals as goal
+use Rattle.filled.proofs.run.Goals.{Start}
+
+-- as many stops are filled as the list has room for
+room : (c : Start) → ones c.args.tray.now.filled ≤ length c.args.list.now
+room c = let t = c.args.tray.now in omega (arith, ones-le t.n t.filled t.inside, c.requires.buffers.0)
 
 pub wanted_list-total-requires-clause-count : goal.wanted_list-total-requires-clause-count
 wanted_list-total-requires-clause-count c =
-    let t = c.args.tray.now in
-    (refl, omega (arith, ones-le t.n t.filled t.inside, c.requires.buffers.0))
+    (refl, room (goal.at.wanted_list-total-requires-clause-count c).Start)
 
 pub slice_bounds-write_bits-end : goal.slice_bounds-write_bits-end
 slice_bounds-write_bits-end c =
-    let t = c.args.tray.now in
-    omega (arith, ones-le t.n t.filled t.inside, c.requires.buffers.0, c.wanted_list-total.auto.list)
+    omega (arith, room (goal.at.slice_bounds-write_bits-end c).Start, c.wanted_list-total.auto.list)
 
 pub slice_bounds-write_bits-end-2 : goal.slice_bounds-write_bits-end-2
 slice_bounds-write_bits-end-2 c =
-    let t = c.args.tray.now in
-    sym (length-take-le _ c.wanted_list-total.new.list (omega (arith, ones-le t.n t.filled t.inside, c.requires.buffers.0, c.wanted_list-total.auto.list)))
+    sym (length-take-le _ c.wanted_list-total.new.list (omega (arith, room (goal.at.slice_bounds-write_bits-end-2 c).Start, c.wanted_list-total.auto.list)))
 
 pub write_bits-requires-clause-list : goal.write_bits-requires-clause-list
 write_bits-requires-clause-list c =

@@ -27,15 +27,6 @@ returns-then-out-file_size c =
     let size : c.file_size.result ≡ file_size (2 ^ p.k) = c.file_size.ensures ∙ ap file_size (stop_count-pow _ (omega (arith, small))) in
     file-planned _ _ _ _ _ (left-refused _ _ _ (ap (giving wanted_file) (judged-test _ _ _ p h.0 e.same _ (plan-short _ _ small (rw size at c.if-out-file_size.true)))))
 
-pub plan_small-requires : goal.plan_small-requires
-plan_small-requires c =
-    let e = c.in_ok-path.ensures in
-    let p = c.in_ok-path.path in
-    let h = job-given _ _ _ e.head in
-    let small = passes-small _ h.1 in
-    let size : c.file_size.result ≡ file_size (2 ^ p.k) = c.file_size.ensures ∙ ap file_size (stop_count-pow _ (omega (arith, small))) in
-    (small, rw size at c.if-out-file_size.false)
-
 pub returns : goal.returns
 returns c =
     let e = c.in_ok-path.ensures in

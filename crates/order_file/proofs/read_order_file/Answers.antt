@@ -4,12 +4,6 @@ use Rattle.order_file.proofs.Calls.{read-lent, read_made, file-accepted}
 use Rattle.order_file.proofs.Stages.{string-there}
 use Rattle.order_file.proofs.read_order_file.Goals as goal
 
-pub invariant_of-file : goal.invariant_of-file
-invariant_of-file c = record { small = (read-lent _ _ _ _ _ (done-number _ c.in_ok-judge_call.ensures)).0.small }
-
-pub store_stops-requires : goal.store_stops-requires
-store_stops-requires c = (read-lent _ _ _ _ _ (done-number _ c.in_ok-judge_call.ensures)).0.order-fits
-
 pub store_string-requires : goal.store_string-requires
 store_string-requires c =
     let l = read-lent _ _ _ _ _ (done-number _ c.in_ok-judge_call.ensures) in

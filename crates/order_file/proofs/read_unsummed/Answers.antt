@@ -5,21 +5,10 @@ use native.Mathlib.Omega.{arith}
 use lib.ListN.{length}
 use Rattle.std.proofs.lemmas.Result.{err_from_is_err_and}
 use Rattle.base.specs.Size.{max_k}
-use Rattle.base.proofs.Size.{stop_count-pow, pow-le-1024}
+use Rattle.base.proofs.Size.{stop_count-pow}
 use Rattle.orders.proofs.Calls.{done-number, done-refused}
-use Rattle.order_file.proofs.Calls.{unsummed-k, unsummed-places, unsummed-contents, unsummed-accepted, unsummed-gives, unsummed-refused, unsummed-read}
+use Rattle.order_file.proofs.Calls.{unsummed-contents, unsummed-accepted, unsummed-gives, unsummed-refused, unsummed-read}
 use Rattle.order_file.proofs.read_unsummed.Goals as goal
-
-pub returns-then-k-gt-MAX_K : goal.returns-then-k-gt-MAX_K
-returns-then-k-gt-MAX_K c = unsummed-refused _ _ _ _ (unsummed-k _ _ _ c.if-k-gt-MAX_K.true)
-
-pub returns-then-order-stop_count : goal.returns-then-order-stop_count
-returns-then-order-stop_count c =
-    let small : c.args.k ≤ max_k = c.if-k-gt-MAX_K.false in
-    unsummed-refused _ _ _ _ (unsummed-places _ _ _ small (omega (arith, c.stop_count.ensures, stop_count-pow _ small)))
-
-pub judge_unsummed-requires : goal.judge_unsummed-requires
-judge_unsummed-requires c = pow-le-1024 c.args.k c.if-k-gt-MAX_K.false
 
 pub returns-in_err-judge_unsummed : goal.returns-in_err-judge_unsummed
 returns-in_err-judge_unsummed c =
@@ -27,11 +16,6 @@ returns-in_err-judge_unsummed c =
     let small : c.args.k ≤ max_k = c.if-k-gt-MAX_K.false in
     let fits : let a = c.args in 2 ^ a.k ≤ length a.order.now = omega (arith, c.stop_count.ensures, stop_count-pow _ small) in
     rw (p.1, p.2) (unsummed-refused _ _ _ _ (unsummed-contents _ _ _ small fits ∙ done-refused _ _ c.in_err-judge_unsummed.ensures.said))
-
-pub store_stops-requires : goal.store_stops-requires
-store_stops-requires c =
-    let small : c.args.k ≤ max_k = c.if-k-gt-MAX_K.false in
-    omega (arith, c.stop_count.ensures, stop_count-pow _ small)
 
 pub returns : goal.returns
 returns c =

@@ -1,13 +1,7 @@
 -- `orders::order_of_bits` meets its contract: everything is judged before a stop is written.
 use Rattle.orders.proofs.Bits.{are_bytes-first}
-use Rattle.orders.proofs.Calls.{done-number, order-judged, order-made}
+use Rattle.orders.proofs.Calls.{done-number, order-judged}
 use Rattle.orders.proofs.order_of_bits.Goals as goal
 
 pub invariant_of-write_order : goal.invariant_of-write_order
 invariant_of-write_order c = let j = order-judged _ _ _ (done-number _ c.in_ok-judge_string.ensures) in record { small = j.small; long = j.long; octets = are_bytes-first _ c.args.bits.now (λ i. (c.type_inv.bits i).fits) j.long }
-
-pub write_order-requires : goal.write_order-requires
-write_order-requires c = (order-judged _ _ _ (done-number _ c.in_ok-judge_string.ensures)).places
-
-pub returns : goal.returns
-returns c = order-made _ _ _ _ (order-judged _ _ _ (done-number _ c.in_ok-judge_string.ensures)) c.write_order.ensures

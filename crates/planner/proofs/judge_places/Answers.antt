@@ -1,15 +1,10 @@
 -- `planner::judge_places` meets its contract: the planner's tests, and then the second table's length.
 use native.Mathlib.Omega.{arith}
 use borrow.Author.Tests.{eq-eqb, ne_eqb}
-use Rattle.std.proofs.lemmas.Result.{err_from_is_err_and}
 use Rattle.rows.proofs.Table.{square-small}
 use Rattle.planner.specs.Places.{places_room}
 use Rattle.planner.proofs.Judged.{judged-ok, fit-count, fit-few}
 use Rattle.planner.proofs.judge_places.Goals as goal
-
-pub returns-in_err-judge_lengths : goal.returns-in_err-judge_lengths
-unfolding places_room
-returns-in_err-judge_lengths c = let p = err_from_is_err_and c.from_residual.result c.from_residual.ensures.1 in rw (p.1, p.2, ← c.in_err-judge_lengths.ensures)
 
 pub overflow_mul-n : goal.overflow_mul-n
 overflow_mul-n c =

@@ -23,7 +23,14 @@ make_sums-requires c =
     let a = c.args in
     let e = c.in_ok-path.ensures in
     let good = good-path _ _ _ _ (room-places (length a.order.now) (length a.sums.now)) _ c.min.ensures c.in_ok-path.path e.path e.same in
-    (order-judged _ _ _ a.sums.now _ good c.in_ok-judge_lent.ensures, (long-both _ _ a.order.now a.sums.now _ good).1)
+    (long-both _ _ a.order.now a.sums.now _ good).1
+
+pub invariant_of-make_sums : goal.invariant_of-make_sums
+invariant_of-make_sums c =
+    let a = c.args in
+    let e = c.in_ok-path.ensures in
+    let good = good-path _ _ _ _ (room-places (length a.order.now) (length a.sums.now)) _ c.min.ensures c.in_ok-path.path e.path e.same in
+    record { judged = order-judged _ _ _ a.sums.now _ good c.in_ok-judge_lent.ensures }
 
 pub returns : goal.returns
 returns c =

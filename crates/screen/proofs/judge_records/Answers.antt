@@ -22,7 +22,14 @@ sums_agree-requires c =
     let a = c.args in
     let t = times_of a.path in
     let judged : gives tt ≡ done (order_judged t a.path.k a.order.now a.sums.now) = c.in_ok-judge_lent.ensures ∙ ap done (records-fit t a.path.k a.order.now a.sums.now _ c.stop_count.ensures) in
-    records-order t _ _ a.sums.now (done-good _ judged)
+    (records-order t _ _ a.sums.now (done-good _ judged)).1
+
+pub invariant_of-sums_agree : goal.invariant_of-sums_agree
+invariant_of-sums_agree c =
+    let a = c.args in
+    let t = times_of a.path in
+    let judged : gives tt ≡ done (order_judged t a.path.k a.order.now a.sums.now) = c.in_ok-judge_lent.ensures ∙ ap done (records-fit t a.path.k a.order.now a.sums.now _ c.stop_count.ensures) in
+    record { judged = (records-order t _ _ a.sums.now (done-good _ judged)).0 }
 
 pub returns-then-not-sums_agree : goal.returns-then-not-sums_agree
 returns-then-not-sums_agree c =

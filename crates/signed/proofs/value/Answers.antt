@@ -14,9 +14,6 @@ use Rattle.signed.proofs.value.Goals.{After-min}
 most : (c : After-min) → c.min.result ≤ largest
 most c = rw c.min.ensures (min-le_right c.args.v largest)
 
-pub overflow_cast-result : goal.overflow_cast-result
-overflow_cast-result c = record { sfits = omega (arith, most c) }
-
 pub returns : goal.returns
 unfolding given
 returns c = read_count c.min.result (omega (arith, most c)) ∙ ap pos (c.min.ensures ∙ lesser largest c.args.v)

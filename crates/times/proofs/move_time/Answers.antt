@@ -23,8 +23,8 @@ returns-in_err-judge-2 c =
 both-good : (c : In_ok-judge-2) → (in_range c.args.from ≡ true) × (in_range c.args.to ≡ true)
 both-good c = (stop-good c.args.from c.in_ok-judge.ensures, stop-good c.args.to c.in_ok-judge-2.ensures)
 
-pub time-requires : goal.time-requires
-time-requires c = both-good c
+pub invariant_of-time : goal.invariant_of-time
+invariant_of-time c = record { from_good = (both-good c).0; to_good = (both-good c).1 }
 
 pub returns : goal.returns
-returns c = ap gives c.time.ensures ∙ sym (move-good _ _ (both-good c.before).0 (both-good c.before).1)
+returns c = ap gives c.time.ensures ∙ sym (move-good _ _ (both-good c.before.before).0 (both-good c.before.before).1)

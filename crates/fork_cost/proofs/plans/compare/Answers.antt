@@ -1,30 +1,9 @@
 -- `fork_cost::plans::compare` meets its contract: both plans, the place where they part, and what is told.
-use mathlib.Core.Path.{◌≡◌, sym, ◌∙◌}
-use Prim.Native.Nat.{◌^◌}
 use native.Mathlib.Omega.{arith}
-use Rattle.base.proofs.Size.{stop_count-pow, pow-le-1024}
 use Rattle.fork_cost.specs.Local.{times_by}
-use Rattle.fork_cost.proofs.Both.{opposite-dearer, both_long}
+use Rattle.fork_cost.proofs.Both.{opposite-dearer}
 use Rattle.fork_cost.proofs.Compared.{cost-left}
 use Rattle.fork_cost.proofs.plans.compare.Goals as goal
-
-pub split_at_mut-returned-requires : goal.split_at_mut-returned-requires
-split_at_mut-returned-requires c =
-    let count : c.stop_count.result ≡ 2 ^ c.args.path.k = c.stop_count.ensures ∙ stop_count-pow _ c.requires.0.small in
-    omega (arith, count, c.requires.3)
-
-pub plan_both-both-requires : goal.plan_both-both-requires
-plan_both-both-requires c =
-    let count : c.stop_count.result ≡ 2 ^ c.args.path.k = c.stop_count.ensures ∙ stop_count-pow _ c.requires.0.small in
-    let q = c.requires in
-    let e = c.split_at_mut-returned.ensures in
-    (q.0, q.1, q.2, e.front_len ∙ count, omega (arith, e.back_len, count, q.3))
-
-pub last_apart-place-requires : goal.last_apart-place-requires
-last_apart-place-requires c =
-    let q = c.requires in
-    let long = both_long c.plan_both-both.ensures q.1 q.2 in
-    (omega (arith, long.0, pow-le-1024 c.args.path.k q.0.small), long.1 ∙ sym long.0)
 
 pub cost_from-requires : goal.cost_from-requires
 cost_from-requires c =

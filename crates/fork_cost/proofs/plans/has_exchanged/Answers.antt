@@ -17,9 +17,6 @@ unwrap-requires c =
     let made = bits-when a.k a.order.now _ _ _ judged (omega (arith, pow-le-1024 a.k q.0)) c.fork_bits.ensures in
     rw (made.0) (search rules)
 
-pub bounds-bits-fork : goal.bounds-bits-fork
-bounds-bits-fork c = omega (arith, pow-le-1024 c.args.k c.requires.0, c.requires.1)
-
 pub returns : goal.returns
 returns c =
     let q = c.requires in

@@ -1,22 +1,13 @@
 -- `fork_cost::plans::plan_both` meets its contract: the first plan is the returned order, its fork's state is read, and the second plan is the opposite one.
 use native.Mathlib.Omega.{arith}
-use lib.Pow.{pow_pos}
-use Rattle.fork_cost.proofs.Both.{front-allowed, both_left, judged-still}
+use Rattle.fork_cost.proofs.Both.{front-allowed, both_left}
 use Rattle.fork_cost.proofs.plans.plan_both.Goals as goal
-
-pub write_order-total-requires : goal.write_order-total-requires
-write_order-total-requires c = let q = c.requires in (q.0, pow_pos _, q.3)
 
 pub has_exchanged-exchanged-requires : goal.has_exchanged-exchanged-requires
 has_exchanged-exchanged-requires c =
     let q = c.requires in
     let p = c.args.path in
     (q.0.small, q.2, omega (arith, c.write_order-total.auto.order, q.3), front-allowed p.bytes.now p.version p.k c.write_order-total.ensures.wrote)
-
-pub write_order-other-requires : goal.write_order-other-requires
-write_order-other-requires c =
-    let q = c.requires in
-    (judged-still q.0 c.write_order-total.auto.totals c.write_order-total.auto.pivots, q.2, q.4)
 
 pub returns : goal.returns
 returns c =

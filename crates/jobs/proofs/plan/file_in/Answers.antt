@@ -8,8 +8,5 @@ returns-in_err-table_from c =
     let p = err_from_is_err_and c.from_residual.result c.from_residual.ensures.1 in
     rw (p.1, p.2) (left-refused _ _ _ (not_made _ _ _ _ _ _ c.requires _ c.in_err-table_from.ensures))
 
-pub file_by-requires : goal.file_by-requires
-file_by-requires c = (made-file _ _ _ _ _ _ c.requires c.in_ok-table_from.ensures).goes_on
-
 pub returns : goal.returns
 returns c = left-same _ _ _ _ _ (made-file _ _ _ _ _ _ c.requires c.in_ok-table_from.ensures).same c.file_by.ensures

@@ -3,11 +3,9 @@ use mathlib.Core.Path.{◌≡◌, refl, sym, ap, ap₂, ◌∙◌}
 use mathlib.Core.Bool.{Bool, true, false, not}
 use mathlib.Core.List.{List}
 use Prim.Native.Nat.{ℕ, ◌^◌}
-use native.Mathlib.Omega.{arith}
 use lib.Dec.{eqb}
 use lib.ListN.{take, replicate}
 use lib.Pointwise.{pointwise}
-use lib.Seq.{length-take-le}
 use Rattle.std.proofs.lemmas.Result.{err_from_is_err_and}
 use Rattle.base.specs.Outcome.{done, over}
 use Rattle.base.proofs.Outcome.{over-front}
@@ -43,17 +41,6 @@ returns-in_err-fork_bits c =
     let p = err_from_is_err_and c.from_residual.result c.from_residual.ensures.1 in
     let t = bits-told _ _ _ _ _ c.in_err-fork_bits.ensures in
     rw (p.1, p.2) (sym (ap done (string-order _ _ _ _ (bits-order _ _ _ _ c.requires.0 c.requires.1 (true-sizes c.args.k c.requires.0).few t))))
-
-pub slice_bounds-ne-end : goal.slice_bounds-ne-end
-slice_bounds-ne-end c = sym (length-take-le _ c.args.bits.now (omega (arith, c.byte_count-count.ensures, byte_count-is _ c.requires.0, c.requires.2)))
-
-pub slice_bounds-own-end : goal.slice_bounds-own-end
-slice_bounds-own-end c =
-    omega (arith, c.byte_count-count.ensures, byte_count-is _ c.requires.0, (true-sizes c.args.k c.requires.0).few, c.fork_bits.auto.bits)
-
-pub slice_bounds-ne-end-2 : goal.slice_bounds-ne-end-2
-slice_bounds-ne-end-2 c =
-    sym (length-take-le _ c.fork_bits.new.bits (omega (arith, c.byte_count-count.ensures, byte_count-is _ c.requires.0, (true-sizes c.args.k c.requires.0).few, c.fork_bits.auto.bits)))
 
 pub returns-then-ne : goal.returns-then-ne
 returns-then-ne c =

@@ -9,7 +9,6 @@ use Rattle.base.specs.Size.{max_k}
 use Rattle.base.proofs.Size.{stop_count-pow}
 use Rattle.orders.specs.Bits.{byte_count}
 use Rattle.orders.specs.ForkBits.{fork_bits, BitsAreMade}
-use Rattle.orders.proofs.Size.{stop_count-square}
 use Rattle.orders.proofs.Calls.{when-bits}
 use Rattle.order_file.specs.File.{file_size}
 use Rattle.order_file.specs.Write.{write_file}
@@ -20,9 +19,6 @@ use Rattle.order_file.proofs.put.judge_write.Goals as goal
 
 pub returns-then-k-gt-MAX_K : goal.returns-then-k-gt-MAX_K
 returns-then-k-gt-MAX_K c = record { said = sym (ap done (write-k _ _ _ _ c.if-k-gt-MAX_K.true)); string = λ z. absurd (search rules) }
-
-pub overflow_mul-n : goal.overflow_mul-n
-overflow_mul-n c = record { fits = omega (arith, stop_count-square _ _ c.stop_count-n.ensures) }
 
 pub returns-then-table-n : goal.returns-then-table-n
 returns-then-table-n c =

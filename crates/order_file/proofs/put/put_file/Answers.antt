@@ -1,11 +1,11 @@
 -- `order_file::put::put_file` meets its contract: the four records, one after the other.
-use mathlib.Core.Path.{◌≡◌, sym, ap, ◌∙◌}
+use mathlib.Core.Path.{◌≡◌, ap, ◌∙◌}
 use mathlib.Core.List.{List, ◌++◌}
 use Prim.Native.Nat.{ℕ, ◌+◌, ◌*◌, ◌^◌, ◌≤◌}
 use native.Mathlib.Omega.{arith}
 use lib.ListN.{length, take, length-append}
 use lib.Seq.{length-take-le}
-use Rattle.base.proofs.Size.{stop_count-pow, pow-le-1024}
+use Rattle.base.proofs.Size.{stop_count-pow}
 use Rattle.records.specs.Put.{put}
 use Rattle.records.proofs.PutLaws.{put_two, put_three}
 use Rattle.orders.specs.Bits.{byte_count}
@@ -31,16 +31,6 @@ written k n sum order string out t u v w e long bytes room a b c d =
     let size : length (h ++ s ++ f) ≡ end_place (2 ^ k) = rw (length-append, length-append) (omega arith) in
     put_two out 0 (h ++ s ++ f) end_bytes v w (end_place (2 ^ k)) (omega (arith, length-end)) (omega arith) three d
     ∙ ap (λ (x : ℕ). put out 0 (h ++ stops_bytes sum (take x order) ++ f ++ end_bytes)) e
-
-pub slice_bounds-put_stops-end : goal.slice_bounds-put_stops-end
-slice_bounds-put_stops-end c =
-    sym (length-take-le _ c.args.order.now (omega (arith, c.stop_count.ensures, stop_count-pow _ c.requires.0, c.requires.1)))
-
-pub put_stops-requires : goal.put_stops-requires
-put_stops-requires c =
-    let count : c.stop_count.result ≡ 2 ^ c.args.k = c.stop_count.ensures ∙ stop_count-pow _ c.requires.0 in
-    let n : length (take c.stop_count.result c.args.order.now) ≡ c.stop_count.result = length-take-le _ c.args.order.now (omega (arith, count, c.requires.1)) in
-    (omega (arith, n, count, pow-le-1024 c.args.k c.requires.0), omega (arith, n, count, c.requires.3, c.put_head.auto.out))
 
 pub returns : goal.returns
 returns c =

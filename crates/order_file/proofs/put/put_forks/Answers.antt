@@ -1,24 +1,22 @@
 -- `order_file::put::put_forks` meets its contract: the record's first bytes, then the string.
-use mathlib.Core.Path.{◌≡◌, sym, ap, ap₂, ◌∙◌}
+use mathlib.Core.Path.{◌≡◌, refl, sym, ap, ◌∙◌}
 use mathlib.Core.List.{List, ◌++◌, append_assoc}
 use Prim.Native.Nat.{ℕ, ◌+◌, ◌-◌, ◌^◌, ◌≤◌}
 use native.Mathlib.Omega.{arith}
-use lib.ListN.{length, take, drop, length-append, length-take, length-drop}
+use lib.ListN.{length, take, drop}
 use borrow.Rule.Slice.PartMut.{put_mid}
 use lib.Seq.{length-take-le, drop-drop}
 use Rattle.base.specs.Size.{max_k, stop_count}
-use Rattle.base.proofs.Size.{stop_count-pow, pow-le-1024}
+use Rattle.base.proofs.Size.{stop_count-pow}
 use Rattle.records.specs.Field.{bytes_of}
 use Rattle.records.specs.Put.{put}
-use Rattle.records.specs.Record.{record_length}
-use Rattle.records.proofs.PutLaws.{put_two, put-fits}
-use Rattle.records.proofs.FieldLaws.{length-bytes_of}
+use Rattle.records.specs.Record.{record_length, record_bytes}
+use Rattle.records.proofs.PutLaws.{put-fits}
 use Rattle.records.proofs.LengthLaws.{forks-length}
 use Rattle.orders.specs.Bits.{byte_count}
 use Rattle.orders.proofs.Size.{byte_count-is}
 use Rattle.order_file.specs.File.{forks_bytes, forks_place, end_place}
-use Rattle.order_file.proofs.Sizes.{true-sizes}
-use Rattle.order_file.proofs.Putting.{record-parts}
+use Rattle.order_file.proofs.Putting.{put-record}
 use Rattle.order_file.proofs.put.put_forks.Goals as goal
 
 -- the record in its place
@@ -26,11 +24,9 @@ written : (k at m long : ℕ) (bits out t u : List ℕ) → at ≡ forks_place (
     → t ≡ put out at (bytes_of 2 long ++ bytes_of 2 6) → u ≡ put t (at + 4) (take m bits) → u ≡ put out (forks_place (2 ^ k)) (forks_bytes (take (byte_count (2 ^ k)) bits))
 unfolding forks_bytes
 written k at m long bits out t u e f g fits room a b =
-    let head : List ℕ = bytes_of 2 long ++ bytes_of 2 6 in
-    let four : length head ≡ 4 = rw (length-append, length-bytes_of, length-bytes_of) in
     let size : length (take m bits) ≡ m = length-take-le m bits fits in
-    put_two out at head (take m bits) t u (at + 4) (omega arith) (omega arith) a b
-    ∙ ap₂ (λ (x : ℕ) (y : List ℕ). put out x y) e (record-parts 6 long (take m bits) (omega arith))
+    put-record out at 6 long (take m bits) t u (at + 4) (omega (arith, size)) (omega (arith, size)) refl a b
+    ∙ ap (λ (x : ℕ). put out x (record_bytes 6 (take m bits))) e
     ∙ ap (λ (x : ℕ). put out (forks_place (2 ^ k)) (forks_bytes (take x bits))) f
 
 -- the string ends within the buffer
@@ -47,28 +43,6 @@ copied at n out bits part fits long e =
     (ap (λ (x : ℕ). take at out ++ (take n bits ++ drop (at + x) out)) (sym size)
     ∙ sym (append_assoc (take at out) (take n bits) (drop (at + length (take n bits)) out))
     ∙ sym (put-fits out at (take n bits) (rw size fits)))
-
-pub overflow_add-string : goal.overflow_add-string
-overflow_add-string c = record { fits = omega (arith, c.forks_place-at.ensures, stop_count-pow _ c.requires.0, pow-le-1024 _ c.requires.0) }
-
-pub overflow_add-string-2 : goal.overflow_add-string-2
-overflow_add-string-2 c = record { fits = omega (arith, c.forks_place-at.ensures, c.byte_count-count.ensures, stop_count-pow _ c.requires.0, pow-le-1024 _ c.requires.0) }
-
-pub slice_bounds-copy_from_slice-end : goal.slice_bounds-copy_from_slice-end
-slice_bounds-copy_from_slice-end c =
-    fits-in c.args.k _ _ _ _ c.requires.0 c.forks_place-at.ensures c.byte_count-count.ensures c.requires.2 c.put_record.auto.out
-
-pub slice_bounds-copy_from_slice-end-2 : goal.slice_bounds-copy_from_slice-end-2
-slice_bounds-copy_from_slice-end-2 c = sym (length-take-le _ c.args.bits.now (omega (arith, c.byte_count-count.ensures, byte_count-is _ c.requires.0, c.requires.1)))
-
-pub copy_from_slice-requires : goal.copy_from_slice-requires
-copy_from_slice-requires c =
-    let fits : c.forks_place-at.result + 4 + c.byte_count-count.result ≤ length c.put_record.new.out = fits-in c.args.k _ _ _ _ c.requires.0 c.forks_place-at.ensures c.byte_count-count.ensures c.requires.2 c.put_record.auto.out in
-    let long : c.byte_count-count.result ≤ length c.args.bits.now = omega (arith, c.byte_count-count.ensures, byte_count-is _ c.requires.0, c.requires.1) in
-    simp (length-take, length-drop) (omega arith)
-
-pub put_record-requires : goal.put_record-requires
-put_record-requires c = omega (arith, c.byte_count-count.ensures, byte_count-is _ c.requires.0, (true-sizes _ c.requires.0).few)
 
 pub returns : goal.returns
 returns c =

@@ -4,7 +4,6 @@ use mathlib.Core.List.{List}
 use Prim.Native.Nat.{ℕ, ◌+◌, ◌*◌, ◌<◌}
 use native.Mathlib.Omega.{arith}
 use lib.ListN.{length, get_or, take}
-use lib.Seq.{take_all}
 use Rattle.records.specs.Field.{bytes_of}
 use Rattle.records.specs.Put.{put}
 use Rattle.records.proofs.PutLaws.{put_two, put-none}
@@ -26,7 +25,3 @@ loop-p-preserved c =
     let long : length (stop_bytes (take p order)) ≡ 2 * p = length-first order p (omega arith) in
     let two : length (bytes_of 2 (get_or order p 0)) ≡ 2 = length-bytes_of 2 _ in
     put_two out stops_place (stop_bytes (take p order)) (bytes_of 2 (get_or order p 0)) l.out _ (18 + 2 * p) (omega (arith, c.requires.1)) (omega arith) l.invariant c.put16.ensures ∙ ap (put out stops_place) (stop-more order p b)
-
-pub returns : goal.returns
-returns c =
-    c.loop-p.invariant ∙ ap (λ (x : List ℕ). put c.args.out.now stops_place (stop_bytes x)) (take_all _ c.args.order.now (omega arith))

@@ -29,25 +29,6 @@ part : (m : ℕ) (front own bits : List ℕ) → m ≤ length own → front ≡ 
 part m front own bits fits e =
     rw (e, length-take-le m own fits, inverted-front m own bits) (sym (over-at m (inverted m own bits) own (length-inverted m own bits)))
 
-pub write_bits-requires : goal.write_bits-requires
-write_bits-requires c =
-    let fits : byte_count (2 ^ c.args.k) ≤ 128 = omega (arith, pow-le-1024 _ c.requires.0.small) in
-    (c.requires.0, fits)
-
-pub slice_bounds-states-end : goal.slice_bounds-states-end
-slice_bounds-states-end c =
-    omega (arith, c.byte_count.ensures, byte_count-is _ c.requires.0.small, pow-le-1024 _ c.requires.0.small, c.write_bits.auto.bits)
-
-pub slice_bounds-invert-end : goal.slice_bounds-invert-end
-slice_bounds-invert-end c =
-    sym (length-take-le _ _ (omega (arith, c.byte_count.ensures, byte_count-is _ c.requires.0.small, pow-le-1024 _ c.requires.0.small, c.write_bits.auto.bits)))
-
-pub invert-requires : goal.invert-requires
-invert-requires c =
-    let count : c.byte_count.result ≡ byte_count (2 ^ c.args.k) = c.byte_count.ensures ∙ byte_count-is _ c.requires.0.small in
-    let fits : c.byte_count.result ≤ length c.write_bits.new.bits = omega (arith, count, pow-le-1024 _ c.requires.0.small, c.write_bits.auto.bits) in
-    omega (arith, count, length-take-le _ _ fits, c.requires.1)
-
 pub invariant_of-write_order : goal.invariant_of-write_order
 invariant_of-write_order c =
     let a = c.args in

@@ -1,19 +1,21 @@
 -- `orders::forks::write_bits` meets its contract: after the places passed, `Marks` says which bits are set.
 use mathlib.Core.Path.{◌≡◌, sym, ap, subst, ◌∙◌}
-use mathlib.Core.List.{List, ◌++◌}
+use mathlib.Core.List.{List, [], ◌∷◌, ◌++◌}
 use Prim.Native.Nat.{ℕ, ◌+◌, ◌^◌, ◌<◌, ◌≤◌}
 use native.Mathlib.Omega.{arith}
 use lib.ListN.{length, get_or, take, drop, replicate, length-replicate, length-append, length-drop}
 use lib.Seq.{get_or-take, length-take-le, drop_at}
+use Rattle.std.proofs.lemmas.List.{length_push}
 use Rattle.base.specs.Size.{stop_count}
 use Rattle.base.proofs.Outcome.{over-at}
-use Rattle.base.proofs.Size.{stop_count-pow, pow-le-1024}
+use Rattle.base.proofs.Size.{stop_count-pow}
 use Rattle.records.proofs.FieldLaws.{length-bytes_of}
 use Rattle.tree.specs.Neighbour.{in_place}
 use Rattle.orders.specs.Allowed.{forks_of}
 use Rattle.orders.specs.Lent.{order_in, JudgedOrder}
 use Rattle.orders.specs.Bits.{byte_count, marked, bit_string}
 use Rattle.orders.proofs.Allowed.{below_each, forks_of-gives, Gives}
+use Rattle.orders.proofs.Places.{place-turn, place-end}
 use Rattle.orders.proofs.Marks.{Marks, marks-none, marks-more, marks-all}
 use Rattle.orders.proofs.Size.{byte_count-is}
 use Rattle.orders.proofs.forks.write_bits.Goals as goal
@@ -35,13 +37,6 @@ cleared k count bits zeros small e long z =
     let c : count ≡ byte_count (2 ^ k) = e ∙ byte_count-is k small in
     rw (z, length-take-le count bits (omega arith), c)
 
-pub slice_bounds-fill-end : goal.slice_bounds-fill-end
-slice_bounds-fill-end c = omega (arith, c.byte_count.ensures, stop_count-pow c.args.k c.requires.0.small, c.requires.1)
-
-pub slice_bounds-fill-end-2 : goal.slice_bounds-fill-end-2
-slice_bounds-fill-end-2 c =
-    sym (length-take-le c.byte_count.result c.args.bits.now (omega (arith, c.byte_count.ensures, stop_count-pow c.args.k c.requires.0.small, c.requires.1)))
-
 pub loop-p-init : goal.loop-p-init
 loop-p-init c =
     let k : ℕ = c.args.k in
@@ -53,30 +48,30 @@ loop-p-init c =
     let long : m ≤ length (replicate m 0 ++ drop m b) = simp (length-append, length-replicate, length-drop) (omega arith) in
     rw z (long, marks-none k o (forks_of k o) (gives k c.args.order.now c.requires.0) b bytes)
 
-pub offset_bounds-order-p : goal.offset_bounds-order-p
-offset_bounds-order-p c =
-    record { fits = omega (arith, c.stop_count-p-end.ensures, stop_count-pow c.args.k c.requires.0.small, pow-le-1024 c.args.k c.requires.0.small) }
-
-pub bounds-order-p : goal.bounds-order-p
-bounds-order-p c = omega (arith, c.stop_count-p-end.ensures, stop_count-pow c.args.k c.requires.0.small, c.requires.0.long)
-
 pub mark_fork-requires : goal.mark_fork-requires
 mark_fork-requires c =
     let l = c.loop-p in
-    let b : l.p < 2 ^ c.args.k = omega (arith, c.stop_count-p-end.ensures, stop_count-pow c.args.k c.requires.0.small) in
-    (c.requires.0.small, omega arith, b, stop-lt c.args.k l.p c.args.order.now c.requires.0 b, l.invariant.0)
+    let t = place-turn c.stop_count-n.result c.args.order.now c.loop-p.yielded c.loop-p.p-iterator c.next.new.self _ c.into_iter-p-iterator.ensures.into_iter_gives c.zip-p-items.ensures.first c.zip-p-items.ensures.second c.iter.ensures.rest c.loop-p.yielded_by c.next.ensures.steps c.in-Some.is in
+    let b : c.in-Some.p < 2 ^ c.args.k = omega (arith, t.1, c.stop_count-n.ensures, stop_count-pow c.args.k c.requires.0.small) in
+    (c.requires.0.small, t.0, b, omega (arith, c.from.ensures, t.4, stop-lt c.args.k c.in-Some.p c.args.order.now c.requires.0 b), l.invariant.0)
 
 pub loop-p-preserved : goal.loop-p-preserved
 loop-p-preserved c =
     let l = c.loop-p in let k : ℕ = c.args.k in
-    let p : ℕ = l.p in
+    let p : ℕ = c.in-Some.p in
     let order : List ℕ = c.args.order.now in
     let o : List ℕ = order_in k order in
-    let b : p < 2 ^ k = omega (arith, c.stop_count-p-end.ensures, stop_count-pow k c.requires.0.small) in
-    let here : in_place o p ≡ get_or order p 0 = get_or-take (2 ^ k) order p 0 b in
+    let t = place-turn c.stop_count-n.result c.args.order.now c.loop-p.yielded c.loop-p.p-iterator c.next.new.self _ c.into_iter-p-iterator.ensures.into_iter_gives c.zip-p-items.ensures.first c.zip-p-items.ensures.second c.iter.ensures.rest c.loop-p.yielded_by c.next.ensures.steps c.in-Some.is in
+    let b : p < 2 ^ k = omega (arith, t.1, c.stop_count-n.ensures, stop_count-pow k c.requires.0.small) in
+    let here : in_place o p ≡ c.from.result = get_or-take (2 ^ k) order p 0 b ∙ sym (c.from.ensures ∙ t.4) in
     let z : marked k p (in_place o p) l.bits ≡ c.mark_fork.new.bits = ap (λ (x : ℕ). marked k p x l.bits) here ∙ sym c.mark_fork.ensures in
     let before : List ℕ = c.fill.new.self ++ drop c.byte_count.result c.args.bits.now in
-    (omega (arith, c.mark_fork.auto.bits, l.invariant.0), subst (λ (x : List ℕ). Marks k o (forks_of k o) before x (p + 1)) z (marks-more k o (forks_of k o) (gives k order c.requires.0) before l.bits p (omega arith) b l.invariant.0 l.invariant.1))
+    let now : Marks k o (forks_of k o) before l.bits p = subst (Marks k o (forks_of k o) before l.bits) (sym t.3) l.invariant.1 in
+    let next : p + 1 ≡ length (l.yielded ++ (c.in-Some.p, c.in-Some.stop) ∷ []) + 1 = omega (arith, t.3, length_push l.yielded (c.in-Some.p, c.in-Some.stop)) in (
+      omega (arith, c.mark_fork.auto.bits, l.invariant.0),
+      subst (Marks k o (forks_of k o) before c.mark_fork.new.bits) next
+          (subst (λ (x : List ℕ). Marks k o (forks_of k o) before x (p + 1)) z (marks-more k o (forks_of k o) (gives k order c.requires.0) before l.bits p t.0 b l.invariant.0 now)),
+    )
 
 pub returns : goal.returns
 returns c =
@@ -86,7 +81,8 @@ returns c =
     let o : List ℕ = order_in k c.args.order.now in
     let z = cleared k c.byte_count.result b c.fill.new.self c.requires.0.small c.byte_count.ensures c.requires.1 (c.fill.ensures.after (λ y e. e)) in
     let before : List ℕ = c.fill.new.self ++ drop c.byte_count.result b in
-    let end : 2 ^ k ≤ l.p = omega (arith, c.stop_count-p-end.ensures, stop_count-pow k c.requires.0.small) in
-    marks-all k o (forks_of k o) (gives k c.args.order.now c.requires.0) before l.bits l.p end l.invariant.0 l.invariant.1
+    let all = place-end c.stop_count-n.result c.args.order.now c.loop-p.yielded c.loop-p.p-iterator c.next.new.self _ c.into_iter-p-iterator.ensures.into_iter_gives c.zip-p-items.ensures.first c.zip-p-items.ensures.second c.iter.ensures.rest c.loop-p.yielded_by c.next.ensures.steps c.in-None.is in
+    let end : 2 ^ k ≤ length l.yielded + 1 = omega (arith, all, c.requires.0.long, c.stop_count-n.ensures, stop_count-pow k c.requires.0.small) in
+    marks-all k o (forks_of k o) (gives k c.args.order.now c.requires.0) before l.bits (length l.yielded + 1) end l.invariant.0 l.invariant.1
     ∙ ap (λ (x : List ℕ). bit_string k (forks_of k o) ++ x) (ap (drop m) z ∙ drop_at (replicate m 0) (drop m b) m (length-replicate {A = ℕ} m 0))
     ∙ sym (over-at m (bit_string k (forks_of k o)) b (length-bytes_of m (forks_of k o)))

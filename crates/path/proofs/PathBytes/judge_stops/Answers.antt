@@ -29,9 +29,3 @@ loop-i-preserved c =
           (sym (place_after a.self.version (a.count - suc i) i a.self.bytes.now (done-good _ c.in_ok-judge_stop.ensures))
           ∙ (rw (more, add-one i) at c.loop-i.invariant.1)),
     )
-
-pub returns : goal.returns
-returns c =
-    let a = c.args in let over : c.loop-i.i ≡ a.count = omega arith in
-    let none : a.count - a.count ≡ 0 = omega arith in
-    c.judge_end.ensures ∙ (rw (over, none) at c.loop-i.invariant.1)

@@ -18,9 +18,6 @@ returns-then-self-at c =
     omega (arith, c.place-at.ensures, c.stop_size.ensures, c.if-self-at.true) in
     rw (lt-leb _ _ past)
 
-pub stop_at-requires : goal.stop_at-requires
-stop_at-requires c = omega (arith, c.stop_size.ensures)
-
 pub returns : goal.returns
 unfolding stop_in
 returns c =

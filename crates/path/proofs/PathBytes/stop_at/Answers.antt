@@ -32,14 +32,8 @@ coordinate_in-requires-3 c = omega (arith, (size-range c.args.self.version).0)
 pub word16-requires : goal.word16-requires
 word16-requires c = omega (arith, (size-range c.args.self.version).0)
 
-pub overflow_add-at-4 : goal.overflow_add-at-4
-overflow_add-at-4 c = omega (arith, (size-range c.args.self.version).0)
-
 pub field_since-requires : goal.field_since-requires
 field_since-requires c h = omega (arith, size-blend, size-dwell)
-
-pub overflow_add-at-5 : goal.overflow_add-at-5
-overflow_add-at-5 c = omega (arith, (size-range c.args.self.version).0)
 
 pub field_since-requires-2 : goal.field_since-requires-2
 field_since-requires-2 c h = omega (arith, size-dwell _ h)

@@ -27,8 +27,3 @@ loop-i-preserved c =
       c.store_stop.auto.blends ∙ inv.7,
       c.store_stop.auto.dwells ∙ inv.8,
     )
-
-pub returns : goal.returns
-returns c =
-    let i = c.loop-i.i in let done : i ≡ c.args.count = omega arith in
-    let inv = c.loop-i.invariant in record { coords_after = (rw done at inv.1); speeds_after = (rw done at inv.2); blends_after = (rw done at inv.3); dwells_after = (rw done at inv.4) }

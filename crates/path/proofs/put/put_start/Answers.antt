@@ -1,5 +1,4 @@
 -- `path::put_start` meets its contract.
-use mathlib.Core.Path.{◌∙◌}
 use native.Mathlib.Omega.{arith}
 use Rattle.records.proofs.LengthLaws.{length-small}
 use Rattle.records.specs.Kind.{kind_number}
@@ -7,6 +6,3 @@ use Rattle.path.proofs.put.put_start.Goals as goal
 
 pub overflow_cast-length : goal.overflow_cast-length
 overflow_cast-length c = rw c.length.ensures (record { fits = let h = length-small (kind_number c.args.kind) c.args.version in omega arith })
-
-pub returns : goal.returns
-returns c = c.put_pair.ensures ∙ rw (c.length.ensures, c.number.ensures)

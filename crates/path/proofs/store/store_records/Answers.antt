@@ -1,5 +1,5 @@
 -- `path::store::store_records` meets its contract: after i turns the records of the first i stops are stored.
-use mathlib.Core.Path.{◌≡◌, refl, ◌∙◌}
+use mathlib.Core.Path.{refl, ◌∙◌}
 use Prim.Native.Nat.{◌+◌, ◌*◌, ◌≤◌}
 use native.Mathlib.Numerals.{add-one}
 use native.Mathlib.Omega.{arith}
@@ -33,8 +33,3 @@ loop-i-preserved g c =
       rw (add-one i) (next-stored _ i _ _ _ _ _ _ c.stop_size-size.ensures c.stop.ensures inv.1 c.put_stop.ensures room),
       c.put_stop.auto.out ∙ inv.2,
     )
-
-pub returns : goal.returns
-returns g c =
-    let done : c.loop-i.i ≡ c.args.count = omega arith in
-    rw done at c.loop-i.invariant.1

@@ -1,14 +1,13 @@
 -- `planner::halve::solve` meets its contract, and ends: m falls at each call.
-use mathlib.Core.Path.{◌≡◌, refl, sym, ap, ◌∙◌}
+use mathlib.Core.Path.{refl, sym, ap, ◌∙◌}
 use Prim.Native.Nat.{◌+◌, ◌-◌, ◌<◌}
 use native.Mathlib.Omega.{arith}
 use Rattle.base.proofs.Size.{pow-le-1024}
 use Rattle.rows.proofs.Blocks.{aligned-small, pow-half, first-half, second-half}
 use Rattle.planner.proofs.Sizes.{sizes-small, sizes-kept}
-use Rattle.planner.specs.Method.{solve_weighings}
 use Rattle.planner.proofs.Halving.{halved-stops, first_found, second-found, solved-join, aligned_at, reached-at, solved-at}
 use Rattle.planner.proofs.Smallest.{solved-none, solved-two}
-use Rattle.planner.proofs.Weighings.{solve-few, solve-more, solve-one, solve-two}
+use Rattle.planner.proofs.Weighings.{solve-one, solve-two, solve-sum}
 use Rattle.planner.proofs.halve.+solve.Goals as goal
 
 pub returns-then-m-eq0 : goal.returns-then-m-eq0
@@ -25,8 +24,7 @@ pow-half-requires g t c = let q = c.requires in omega (arith, pow-le-1024 (c.arg
 pub solve-first-requires : goal.solve-first-requires
 solve-first-requires g t c =
     let q = c.requires in
-    let large : 1 < c.args.m = omega (arith, c.if-m-eq1.false, c.if-m-eq0.false) in
-    let some : 0 < c.args.m = omega arith in
+    let some : 0 < c.args.m = omega (arith, c.if-m-eq0.false) in
     let p = c.split-here in
     let fixed = p.ensures.0 in
     λ κs sub. (
@@ -37,16 +35,13 @@ solve-first-requires g t c =
 -- the second half begins within the places
 pub overflow_add-left : goal.overflow_add-left
 overflow_add-left g t c =
-    let large : 1 < c.args.m = omega (arith, c.if-m-eq1.false, c.if-m-eq0.false) in
     let q = c.requires in
-    omega (arith, c.pow-half.ensures, q.aligned_block.inside, pow-half c.args.m (omega (arith, large)), sizes-small q.lent_sizes)
+    omega (arith, c.pow-half.ensures, q.aligned_block.inside, pow-half c.args.m (omega (arith, c.if-m-eq0.false)), sizes-small q.lent_sizes)
 
 pub solve-second-requires : goal.solve-second-requires
 solve-second-requires g t c =
-    let large : 1 < c.args.m = omega (arith, c.if-m-eq1.false, c.if-m-eq0.false) in
     let q = c.requires in
-    let more = large in
-    let some : 0 < c.args.m = omega arith in
+    let some : 0 < c.args.m = omega (arith, c.if-m-eq0.false) in
     let p = c.split-here in
     let r = c.solve-first in
     let e = ap (λ x. c.args.left + x) (sym c.pow-half.ensures) in
@@ -57,39 +52,18 @@ solve-second-requires g t c =
 
 pub overflow_add-result : goal.overflow_add-result
 overflow_add-result g t c =
-    let large : 1 < c.args.m = omega (arith, c.if-m-eq1.false, c.if-m-eq0.false) in
-    let weighed : let m = c.args.m in
-    (c.split-here.result + c.solve-first.result + c.solve-second.result ≡ solve_weighings m) × (solve_weighings m < 1099511627776) = let m = c.args.m in
-    let q = c.requires in
-    let few = aligned-small q.aligned_block (sizes-small q.lent_sizes) in (
-      omega (arith, c.split-here.ensures.1, c.solve-first.ensures.1, c.solve-second.ensures.1, solve-more m large),
-      omega (arith, solve-few m few, pow-le-1024 m few),
-    ) in
-    omega (arith, weighed)
+    let few = aligned-small c.requires.aligned_block (sizes-small c.requires.lent_sizes) in
+    omega (arith, solve-sum (omega (arith, c.if-m-eq1.false, c.if-m-eq0.false)) few c.split-here.ensures.1 c.solve-first.ensures.1 c.solve-second.ensures.1)
 
 pub overflow_add-result-2 : goal.overflow_add-result-2
 overflow_add-result-2 g t c =
-    let large : 1 < c.args.m = omega (arith, c.if-m-eq1.false, c.if-m-eq0.false) in
-    let weighed : let m = c.args.m in
-    (c.split-here.result + c.solve-first.result + c.solve-second.result ≡ solve_weighings m) × (solve_weighings m < 1099511627776) = let m = c.args.m in
-    let q = c.requires in
-    let few = aligned-small q.aligned_block (sizes-small q.lent_sizes) in (
-      omega (arith, c.split-here.ensures.1, c.solve-first.ensures.1, c.solve-second.ensures.1, solve-more m large),
-      omega (arith, solve-few m few, pow-le-1024 m few),
-    ) in
-    omega (arith, weighed)
+    let few = aligned-small c.requires.aligned_block (sizes-small c.requires.lent_sizes) in
+    omega (arith, solve-sum (omega (arith, c.if-m-eq1.false, c.if-m-eq0.false)) few c.split-here.ensures.1 c.solve-first.ensures.1 c.solve-second.ensures.1)
 
 pub returns : goal.returns
 returns g t c =
-    let large : 1 < c.args.m = omega (arith, c.if-m-eq1.false, c.if-m-eq0.false) in
-    let weighed : let m = c.args.m in
-    (c.split-here.result + c.solve-first.result + c.solve-second.result ≡ solve_weighings m) × (solve_weighings m < 1099511627776) = let m = c.args.m in
     let q = c.requires in
     let few = aligned-small q.aligned_block (sizes-small q.lent_sizes) in (
-      omega (arith, c.split-here.ensures.1, c.solve-first.ensures.1, c.solve-second.ensures.1, solve-more m large),
-      omega (arith, solve-few m few, pow-le-1024 m few),
-    ) in
-    let q = c.requires in (
-      solved-join _ _ refl _ _ _ q.aligned_block (omega (arith, large)) q.lent_sizes.places _ c.split-here.ensures.0 _ _ c.solve-first.ensures.0 (solved-at (ap (λ x. c.args.left + x) c.pow-half.ensures) c.solve-second.ensures.0),
-      weighed.0,
+      solved-join _ _ refl _ _ _ q.aligned_block (omega (arith, c.if-m-eq0.false)) q.lent_sizes.places _ c.split-here.ensures.0 _ _ c.solve-first.ensures.0 (solved-at (ap (λ x. c.args.left + x) c.pow-half.ensures) c.solve-second.ensures.0),
+      (solve-sum (omega (arith, c.if-m-eq1.false, c.if-m-eq0.false)) few c.split-here.ensures.1 c.solve-first.ensures.1 c.solve-second.ensures.1).0,
     )

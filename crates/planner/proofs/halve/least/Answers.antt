@@ -1,24 +1,23 @@
--- `planner::halve::least` meets its contract. The loop's invariant: what is held is the least of the stops before i.
-use mathlib.Core.Path.{◌≡◌, refl, sym, ◌∙◌}
-use Prim.Native.Nat.{ℕ, ◌+◌}
+-- `planner::halve::least` meets its contract. The loop's invariant: what is held is the least of the stops before this one.
+use mathlib.Core.Path.{◌≡◌, refl, sym, ap₂, ◌∙◌}
+use mathlib.Core.Bool.{true}
+use Prim.Native.Nat.{ℕ, ◌+◌, ◌-◌}
 use native.Mathlib.Omega.{arith}
-use lib.ListN.{get_or}
+use lib.ListN.{length, get_or, take, drop}
+use lib.Seq.{get_or-take, get_or-drop}
+use Rattle.walks.specs.Rows.{turn}
 use Rattle.planner.specs.Method.{least_of}
 use Rattle.planner.proofs.Least.{least-next}
 use Rattle.planner.proofs.halve.least.Goals as goal
 
-pub loop-i-init : goal.loop-i-init
+pub loop-stop-init : goal.loop-stop-init
 unfolding least_of
-loop-i-init c = (omega arith, refl)
+loop-stop-init c = refl
 
-pub loop-i-preserved : goal.loop-i-preserved
-loop-i-preserved c =
+pub loop-stop-preserved : goal.loop-stop-preserved
+loop-stop-preserved c =
     let a = c.args in
-    let i : ℕ = c.loop-i.i in
+    let i : ℕ = c.loop-stop.stop in
     let x : ℕ → ℕ = λ j. get_or a.totals.now (a.n + j) 0 in
-    (omega arith, c.keep-held.ensures ∙ rw c.loop-i.invariant.1 (sym (least-next x i)))
-
-pub returns : goal.returns
-returns c =
-    let e : c.loop-i.i ≡ c.args.n = omega arith in
-    rw e at c.loop-i.invariant.1
+    let read : get_or (take (length a.totals.now - a.n) (drop a.n a.totals.now)) i 0 ≡ x i = get_or-take (length a.totals.now - a.n) (drop a.n a.totals.now) i 0 (omega arith) ∙ get_or-drop a.n a.totals.now i 0 in
+    c.keep-held.ensures ∙ ap₂ (λ v s. turn true v i s) read c.loop-stop.invariant ∙ sym (least-next x i)

@@ -8,7 +8,7 @@ use Rattle.rows.proofs.leaves.leaves.Given as goal
 abbrev pub invariant-loop-i : goal.invariant-loop-i
 invariant-loop-i g l =
     (l.i % 4 ≡ 0)
-    × Made l.place (l.place + 3) (three_on (g.C.Costs.costing l.costs) (not (eqb g.row.EARLY 0)) (not (eqb g.row.EARLY 0)) l.place) 0 (g.C.Costs.costing l.costs).stops l.base l.size 4 l.i l.initial.totals l.initial.pivots l.totals l.pivots l.count
+    × Made l.place (l.place + 3) (three_on (g.C.Costs.costing l.costs) (not (eqb g.row.EARLY 0)) (not (eqb g.row.EARLY 0)) l.place) 0 (g.C.Costs.costing l.costs).stops l.fn.block.base l.fn.block.size 4 l.i l.initial.totals l.initial.pivots l.totals l.pivots l.count
 
 abbrev pub decreases-loop-i : goal.decreases-loop-i
-decreases-loop-i g l = l.base + l.size - l.i
+decreases-loop-i g l = l.fn.block.base + l.fn.block.size - l.i

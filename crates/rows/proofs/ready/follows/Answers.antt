@@ -6,7 +6,7 @@ use lib.Bits.{bit_xor}
 use Rattle.tree.specs.Neighbour.{reach}
 use Rattle.tree.proofs.Beside.{reach_of-pos}
 use Rattle.rows.proofs.Along.{reach_few}
-use Rattle.rows.proofs.Asked.{tells-yes, tells-no, tells-below, may-follow, not-below, follow-below}
+use Rattle.rows.proofs.Asked.{tells-no, tells-below, may-follow, not-below, follow-below}
 use Rattle.rows.proofs.ready.follows.Goals as goal
 use Rattle.rows.proofs.ready.follows.Goals.{After-reach-r}
 
@@ -17,9 +17,6 @@ later c = omega (arith, c.if-left-eq0.false)
 -- the place's reach
 reaches : (c : After-reach-r) → c.reach-r.result ≡ reach c.args.left
 reaches c = c.reach-r.ensures ∙ reach_of-pos _ (later c)
-
-pub returns-then-left-eq0 : goal.returns-then-left-eq0
-returns-then-left-eq0 c = tells-yes (λ pos. absurd (omega (arith, c.if-left-eq0.true)))
 
 pub returns-then-x-r : goal.returns-then-x-r
 returns-then-x-r c = tells-no (λ f. not-below _ _ _ (omega (arith, reaches c.before, c.if-x-r.true)) (f (later c.before)))

@@ -8,7 +8,7 @@ use Rattle.rows.proofs.row.next_row.Given as goal
 abbrev pub invariant-loop-i : goal.invariant-loop-i
 invariant-loop-i g l =
     (l.i % 4 ≡ 0)
-    × Made l.place (l.place + 1) (next (g.C.Costs.costing l.costs) l.place (not (eqb g.row.EARLY 0))) (g.C.Costs.costing l.costs).stops 0 l.base l.size (2 ^ l.t) l.i l.initial.totals l.initial.pivots l.totals l.pivots l.count
+    × Made l.place (l.place + 1) (next (g.C.Costs.costing l.costs) l.place (not (eqb g.row.EARLY 0))) (g.C.Costs.costing l.costs).stops 0 l.fn.block.base l.fn.block.size (2 ^ l.t) l.i l.initial.totals l.initial.pivots l.totals l.pivots l.count
 
 abbrev pub decreases-loop-i : goal.decreases-loop-i
-decreases-loop-i g l = l.base + l.size - l.i
+decreases-loop-i g l = l.fn.block.base + l.fn.block.size - l.i

@@ -1,17 +1,11 @@
 -- `screen::judge::judge_exchange` meets its contract: the records, then the fork.
 use mathlib.Core.Path.{sym, ap}
 use native.Mathlib.Omega.{arith}
-use Rattle.std.proofs.lemmas.Result.{err_from_is_err_and}
 use Rattle.base.specs.Outcome.{done}
 use Rattle.screen.proofs.Order.{count}
-use Rattle.screen.proofs.Records.{records-done, exchange-refused, exchange-out, exchange-given}
+use Rattle.screen.proofs.Records.{records-done, exchange-out, exchange-given}
 use Rattle.screen.proofs.judge.judge_exchange.Goals as goal
 use Rattle.screen.proofs.judge.judge_exchange.Goals.{then-fork-eq0-via-then-fork-eq0, then-fork-eq0-via-else-fork-eq0+then-stop_count-fork}
-
-pub returns-in_err-judge_records : goal.returns-in_err-judge_records
-returns-in_err-judge_records c =
-    let p = err_from_is_err_and c.from_residual.result c.from_residual.ensures.1 in
-    rw (p.1, p.2) (sym (ap done (exchange-refused _ _ _ _ _ _ c.in_err-judge_records.ensures)))
 
 pub returns-then-fork-eq0 : goal.returns-then-fork-eq0
 returns-then-fork-eq0 c =

@@ -18,11 +18,14 @@ slice_bounds-swap_halves-end c = omega (arith, block-fits _ _ c.requires.0 _ c.r
 pub swap_halves-requires : goal.swap_halves-requires
 swap_halves-requires c = block-long _ _ c.requires.0 _ c.requires.1 c.requires.2 _ _ c.place_between-p.ensures c.reach-half.ensures
 
+pub invariant_of-update_sums : goal.invariant_of-update_sums
+invariant_of-update_sums c =
+    record { judged = now-judged _ _ c.requires.0 _ c.requires.1 c.requires.2 _ _ c.place_between-p.ensures c.reach-half.ensures _ c.swap_halves.ensures }
+
 pub update_sums-requires : goal.update_sums-requires
 update_sums-requires c =
     let found = c.place_between-p.ensures in
     let is = c.reach-half.ensures in (
-      now-judged _ _ c.requires.0 _ c.requires.1 c.requires.2 _ _ found is _ c.swap_halves.ensures,
       c.requires.1,
       c.requires.2,
       now-between _ _ c.requires.0 _ c.requires.1 c.requires.2 _ _ found is _ c.swap_halves.ensures,

@@ -1,12 +1,11 @@
 -- `screen::update::place_above` meets its contract.
-use mathlib.Core.Path.{◌≡◌, ap, ◌∙◌}
-use Prim.Native.Nat.{ℕ, ◌+◌, ◌*◌, ◌/◌, ◌≤◌, ◌<◌}
+use mathlib.Core.Path.{◌≡◌, ◌∙◌}
+use Prim.Native.Nat.{ℕ, ◌*◌, ◌/◌, ◌≤◌, ◌<◌}
 use native.Mathlib.Nat.{div-add-mod'}
 use native.Mathlib.Omega.{arith}
 use Rattle.tree.specs.Neighbour.{reach}
 use Rattle.tree.proofs.Beside.{reach_of-pos}
 use Rattle.orders.proofs.Shift.{reach-pos, reach-lt}
-use Rattle.screen.specs.Local.{place_above}
 use Rattle.screen.proofs.update.place_above.Goals as goal
 use Rattle.screen.proofs.update.place_above.Goals.{After-reach-r}
 
@@ -24,21 +23,11 @@ first c = let p : ℕ = c.args.p in omega (arith, div-add-mod' p (4 * c.reach-r.
 pub overflow_mul-result : goal.overflow_mul-result
 overflow_mul-result c = omega (arith, (known c).2)
 
-pub nonzero_div-result : goal.nonzero_div-result
-nonzero_div-result c = omega (arith, (known c).1)
-
 pub overflow_mul-result-2 : goal.overflow_mul-result-2
 overflow_mul-result-2 c = omega (arith, (known c).2)
-
-pub overflow_mul-result-3 : goal.overflow_mul-result-3
-overflow_mul-result-3 c = omega (arith, first c, c.requires.1)
 
 pub overflow_mul-result-4 : goal.overflow_mul-result-4
 overflow_mul-result-4 c = omega (arith, (known c).2)
 
 pub overflow_add-result : goal.overflow_add-result
 overflow_add-result c = omega (arith, first c, (known c).2, c.requires.1)
-
-pub returns : goal.returns
-unfolding place_above
-returns c = let p : ℕ = c.args.p in ap (λ r. p / (4 * r) * (4 * r) + 2 * r) (known c).0

@@ -1,15 +1,12 @@
 -- `stop::Stops::judge_each` meets its contract: the first stop out of range is the refusal.
 use Rattle.std.proofs.Common.{rules, ◌≡◌, Err, sym, ap, ◌∙◌, arith}
-use borrow.Author.Count.{below_none, below_more}
+use borrow.Author.Count.{below_more}
 use Rattle.base.specs.Refusal.{refusal_number}
 use Rattle.base.specs.Outcome.{said, refuses}
 use Rattle.stop.specs.Lent.{lent, stop_at}
 use Rattle.stop.proofs.Limits.{stop-good, stop-bad}
 use Rattle.stop.proofs.Lent.{judge-good, judge-bad}
 use Rattle.stop.proofs.Stops.judge_each.Goals as goal
-
-pub loop-i-init : goal.loop-i-init
-loop-i-init c = (search rules, below_none _)
 
 pub returns-in_err-judge : goal.returns-in_err-judge
 returns-in_err-judge c =

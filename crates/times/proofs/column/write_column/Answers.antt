@@ -21,6 +21,3 @@ loop-r-preserved c =
     let r = c.loop-r.r in
     let place : r * c.args.n + c.args.to ≡ 0 + r * c.args.n + c.args.to = omega arith in
     rw place (each_more _ _ (times_from c.args.four c.args.stop) c.loop-r.r _ _ c.loop-r.invariant (c.time.ensures ∙ ap (λ (s : Stop). time s c.args.stop) from))
-
-pub returns : goal.returns
-returns c = let end : c.loop-r.r ≡ 4 = omega arith in rw end at c.loop-r.invariant

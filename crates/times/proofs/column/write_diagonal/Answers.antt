@@ -13,6 +13,3 @@ loop-r-preserved c =
     let r = c.loop-r.r in
     let place : r * c.args.n + c.args.from + r ≡ 0 + r * c.args.n + (c.args.from + r) = omega arith in
     rw place (each_more _ _ _ r _ _ c.loop-r.invariant refl)
-
-pub returns : goal.returns
-returns c = let end : c.loop-r.r ≡ 4 = omega arith in rw end at c.loop-r.invariant

@@ -8,20 +8,11 @@ use Rattle.stop.specs.declared.Stop.{Stop}
 use Rattle.times.specs.Time.{time}
 use Rattle.times.specs.Table.{entry_of}
 use Rattle.times.proofs.Columns.{column_again, diagonal-rows, rows_none, rows-whole}
-use Rattle.times.proofs.Entries.{AreFour, four-good, four-moves, entry-same, entry-moved}
+use Rattle.times.proofs.Entries.{AreFour, four-moves, entry-same, entry-moved}
 use Rattle.times.proofs.fill.write_four.Goals as goal
 
 pub loop-to-init : goal.loop-to-init
 loop-to-init g c = rows_none _ _ _ _ _
-
-pub write_column-requires : goal.write_column-requires
-write_column-requires g c =
-    let stops : ℕ → Stop = g.S.StopSource.stop_at c.args.stops.now.source in
-    let four : AreFour stops c.args.from c.stop.result c.stop-2.result c.stop-3.result c.stop-4.result = record { first = c.stop.ensures.is; second = c.stop-2.ensures.is; third = c.stop-3.ensures.is; fourth = c.stop-4.ensures.is } in
-    record {
-      four_in_range = (four-good stops c.args.from _ _ _ _ four c.args.stops.now.count c.requires.0 c.args.stops.now.good, c.stop-in-loop-to.ensures.good);
-      to_in_bounds = (c.loop-to-test.true, omega arith);
-    }
 
 pub loop-to-preserved : goal.loop-to-preserved
 loop-to-preserved g c =

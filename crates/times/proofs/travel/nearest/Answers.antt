@@ -13,15 +13,6 @@ rest c = mod-lt _ c.requires.1
 whole : (c : Start) → c.args.p / c.args.q ≤ c.args.p
 whole c = div-le_self _ _
 
-pub overflow_mul-rest : goal.overflow_mul-rest
-overflow_mul-rest c = record { fits = omega (arith, rest c) }
-
-pub overflow_add-rest : goal.overflow_add-rest
-overflow_add-rest c = record { fits = omega (arith, rest c) }
-
-pub overflow_add-result : goal.overflow_add-result
-overflow_add-result c = record { fits = omega (arith, whole c.before) }
-
 pub returns-then-q-rest : goal.returns-then-q-rest
 returns-then-q-rest c =
     let small = mod-lt c.args.p c.requires.1 in

@@ -1,6 +1,6 @@
 -- `times::travel::time_over` meets its contract: each number on the way has 32 bits, for every distance, speed, blend and dwell.
 use mathlib.Core.Path.{◌≡◌}
-use Prim.Native.Nat.{ℕ, ◌+◌, ◌*◌, ◌≤◌}
+use Prim.Native.Nat.{ℕ, ◌≤◌}
 use native.Mathlib.Omega.{arith}
 use Rattle.stop.specs.Stop.{slowest}
 use Rattle.times.specs.Time.{longest_travel, counted, nearest}
@@ -11,13 +11,6 @@ use Rattle.times.proofs.travel.time_over.Goals as goal
 rounded : (p q t : ℕ) → t ≡ nearest p q → slowest ≤ q → p ≤ longest_travel → t ≤ longest_travel
 rounded p q t e h l = omega (arith, e, nearest-le p q h)
 
--- the steps one after the other
-steps : (d speed blend dwell far t : ℕ) → far ≡ counted d blend → t ≡ nearest (100 * far) speed → t + dwell ≡ nearest (100 * counted d blend) speed + dwell
-steps d speed blend dwell far t e f = rw (f, e)
-
 pub overflow_add-result : goal.overflow_add-result
 overflow_add-result c =
     record { fits = omega (arith, rounded _ _ _ c.nearest.ensures c.requires.1 (omega (arith, c.counted-far.ensures.1))) }
-
-pub returns : goal.returns
-returns c = steps _ _ _ _ _ _ c.counted-far.ensures.0 c.nearest.ensures

@@ -1,27 +1,14 @@
 -- `all_orders_output::lines::SmallTable::put_order` meets its contract: the order of the set, its total, and the line of both.
-use mathlib.Core.Path.{◌≡◌, sym, ap, ◌∙◌}
+use mathlib.Core.Path.{◌≡◌, ap, ◌∙◌}
 use mathlib.Core.List.{List, ◌++◌}
 use Prim.Native.Nat.{ℕ, ◌*◌, ◌+◌, ◌^◌}
 use native.Mathlib.Omega.{arith}
 use lib.ListN.{take, length-append}
-use lib.Seq.{length-take-le}
 use Rattle.all_orders_output.specs.Text.{line_of, order_line}
 use Rattle.all_orders_output.specs.Local.{text_of, times_in}
 use Rattle.all_orders_output.proofs.Listing.{order-made, made-line}
 use Rattle.all_orders_output.proofs.Sizes.{few-stops, line_small}
 use Rattle.all_orders_output.proofs.lines.SmallTable.put_order.Goals as goal
-
-pub slice_bounds-order-end : goal.slice_bounds-order-end
-slice_bounds-order-end c =
-    let t = c.args.self.now in
-    let few = few-stops t.k _ t.small c.stop_count.ensures in
-    omega (arith, few.eight, c.order_of_bits.auto.order)
-
-pub slice_bounds-put_line-end : goal.slice_bounds-put_line-end
-slice_bounds-put_line-end c =
-    let t = c.args.self.now in
-    let few = few-stops t.k _ t.small c.stop_count.ensures in
-    sym (length-take-le _ c.order_of_bits.new.order (omega (arith, few.eight, c.order_of_bits.auto.order)))
 
 pub put_line-requires : goal.put_line-requires
 put_line-requires c =

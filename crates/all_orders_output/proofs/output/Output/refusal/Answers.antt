@@ -1,11 +1,8 @@
 -- `all_orders_output::output::Output::refusal` meets its contract: a number of 16 bits has at most 5 digits.
-use mathlib.Core.Path.{ap, ◌∙◌}
-use mathlib.Core.List.{List, [], ◌∷◌, ◌++◌}
 use Prim.Native.Nat.{ℕ, ◌≤◌}
 use native.Mathlib.Omega.{arith}
 use lib.ListN.{length, length-append}
 use Rattle.all_orders_output.specs.Decimal.{decimal}
-use Rattle.all_orders_output.specs.Text.{line_end, refusal_line}
 use Rattle.all_orders_output.proofs.Decimal.{length-decimal}
 use Rattle.all_orders_output.proofs.output.Output.refusal.Goals as goal
 
@@ -18,9 +15,3 @@ pub put-requires : goal.put-requires
 put-requires c =
     let few : length (decimal c.from.result) ≤ 5 = length-decimal 4 c.from.result (omega (arith, c.from.ensures, c.number.type_inv)) in
     rw (c.put_decimal.ensures, c.new-out.ensures) (omega (arith, few, length-append {A = ℕ}))
-
-pub returns : goal.returns
-unfolding refusal_line
-returns c =
-    c.put.ensures ∙ ap (λ (l : List ℕ). l ++ line_end ∷ []) (c.put_decimal.ensures ∙ ap (λ (l : List ℕ). l ++ decimal c.from.result) c.new-out.ensures)
-    ∙ ap (λ (n : ℕ). decimal n ++ line_end ∷ []) (c.from.ensures ∙ c.number.ensures)

@@ -3,16 +3,15 @@ use mathlib.Core.Path.{◌≡◌, refl, sym, ap, ◌∙◌}
 use mathlib.Core.List.{List}
 use Prim.Native.Nat.{ℕ, ◌^◌, ◌≤◌}
 use lib.ListN.{take, drop}
-use Rattle.std.proofs.lemmas.Result.{err_from_is_err_and}
 use Rattle.base.specs.Outcome.{done, over}
 use Rattle.base.specs.Size.{max_k, stop_count}
 use Rattle.base.proofs.Outcome.{over-front}
-use Rattle.base.proofs.Size.{stop_count-pow, pow-le-1024}
+use Rattle.base.proofs.Size.{stop_count-pow}
 use Rattle.tree.specs.Total.{entry, total}
 use Rattle.orders.proofs.Calls.{done-number}
 use Rattle.order_file.specs.File.{stops_place}
 use Rattle.order_file.proofs.Bytes.{length-stops_in}
-use Rattle.order_file.proofs.Calls.{Accepted, unsummed-accepted, file-unsummed, file-other, file-gives}
+use Rattle.order_file.proofs.Calls.{Accepted, unsummed-accepted, file-other, file-gives}
 use Rattle.order_file.proofs.Stages as stage
 use Rattle.order_file.proofs.check.FileBytes.judge.Goals as goal
 
@@ -22,14 +21,6 @@ summed : (k : ℕ) (table file stops before : List ℕ) (r : ℕ) → k ≤ max_
 summed k table file stops before r h e f =
     f ∙ ap (λ (n : ℕ). total (entry n table) (take n stops)) (stop_count-pow k h)
     ∙ ap (total (entry (2 ^ k) table)) (ap (take (2 ^ k)) e ∙ over-front (2 ^ k) (stage.stops k file) before (length-stops_in (2 ^ k) (drop stops_place file)))
-
-pub judge_unsummed-requires : goal.judge_unsummed-requires
-judge_unsummed-requires c = pow-le-1024 c.args.self.k c.args.self.small
-
-pub returns-in_err-judge_unsummed : goal.returns-in_err-judge_unsummed
-returns-in_err-judge_unsummed c =
-    let p = err_from_is_err_and c.from_residual.result c.from_residual.ensures.1 in
-    rw (p.1, p.2) (file-unsummed _ _ _ _ c.in_err-judge_unsummed.ensures.said)
 
 pub returns-then-total-sum_moves : goal.returns-then-total-sum_moves
 returns-then-total-sum_moves c =

@@ -7,7 +7,7 @@ use lib.ListN.{drop}
 use Rattle.std.proofs.lemmas.Result.{err_from_is_err_and}
 use Rattle.base.specs.Outcome.{Outcome, gives, done, unless, number}
 use Rattle.base.specs.Size.{max_k, stop_count}
-use Rattle.base.proofs.Size.{stop_count-pow, pow-le-1024}
+use Rattle.base.proofs.Size.{stop_count-pow}
 use Rattle.records.specs.Record.{take_record, record_length}
 use Rattle.records.proofs.LengthLaws.{order-length, stops-length, forks-length, end-length}
 use Rattle.orders.specs.Bits.{byte_count}
@@ -117,18 +117,3 @@ returns c =
     let end = is-end k file _ small _ c.end_place.ensures c.in_ok-judge_record-4.ensures in
     let size : c.file_size.result ≡ file_size (2 ^ k) = c.file_size.ensures ∙ ap file_size (stop_count-pow k small) in
     sym (ap done (past_end k file head own order forks end ∙ stage.end-exact k file (omega (arith, size))))
-
-pub overflow_mul-stop_count : goal.overflow_mul-stop_count
-overflow_mul-stop_count c =
-    let k : ℕ = c.args.self.k in let small : k ≤ max_k = c.args.self.small in
-    record { fits = omega (arith, c.stop_count.ensures, stop_count-pow k small, pow-le-1024 k small) }
-
-pub judge_record-requires-2 : goal.judge_record-requires-2
-judge_record-requires-2 c =
-    let k : ℕ = c.args.self.k in let small : k ≤ max_k = c.args.self.small in
-    omega (arith, c.stop_count.ensures, stop_count-pow k small, pow-le-1024 k small)
-
-pub judge_record-requires-3 : goal.judge_record-requires-3
-judge_record-requires-3 c =
-    let k : ℕ = c.args.self.k in let small : k ≤ max_k = c.args.self.small in
-    omega (arith, c.byte_count.ensures, byte_count-is k small, pow-le-1024 k small)

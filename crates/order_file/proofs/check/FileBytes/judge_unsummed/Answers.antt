@@ -4,8 +4,6 @@ use mathlib.Core.List.{List}
 use Prim.Native.Nat.{ℕ, ◌+◌, ◌^◌, ◌≤◌}
 use native.Mathlib.Omega.{arith}
 use lib.ListN.{length, take, drop, length-drop}
-use Rattle.std.proofs.Common.{rules}
-use Rattle.std.proofs.lemmas.Result.{err_from_is_err_and}
 use Rattle.base.specs.Outcome.{done, over}
 use Rattle.base.proofs.Outcome.{over-front}
 use Rattle.orders.specs.Bits.{byte_count}
@@ -14,7 +12,7 @@ use Rattle.orders.proofs.Calls.{done-number}
 use Rattle.order_file.specs.File.{stops_place, forks_place}
 use Rattle.order_file.specs.Reading.{judge_string}
 use Rattle.order_file.proofs.Bytes.{length-stops_in}
-use Rattle.order_file.proofs.Calls.{unsummed-records, unsummed-done}
+use Rattle.order_file.proofs.Calls.{unsummed-done}
 use Rattle.order_file.proofs.Stages as stage
 use Rattle.order_file.proofs.check.FileBytes.judge_unsummed.Goals as goal
 
@@ -28,11 +26,6 @@ judged : (k : ℕ) (file stops before part : List ℕ) → stops ≡ over (stage
 judged k file stops before part e f =
     ap₂ (λ (x y : List ℕ). done (judge_string k (order_in k x) (take (byte_count (2 ^ k)) y))) e f
     ∙ ap (λ (x : List ℕ). done (judge_string k x (stage.string k file))) (over-front (2 ^ k) (stage.stops k file) before (length-stops_in (2 ^ k) (drop stops_place file)))
-
-pub returns-in_err-judge_records : goal.returns-in_err-judge_records
-returns-in_err-judge_records c =
-    let p = err_from_is_err_and c.from_residual.result c.from_residual.ensures.1 in
-    rw (p.1, p.2) record { said = unsummed-records _ _ _ c.in_err-judge_records.ensures; stored = λ z. absurd (search rules) }
 
 pub judge_string-requires : goal.judge_string-requires
 judge_string-requires c =

@@ -15,13 +15,6 @@ use Rattle.order_file.specs.Reading.{stops_in}
 use Rattle.order_file.specs.File.{stops_place}
 use Rattle.order_file.proofs.check.FileBytes.store_stops.Goals as goal
 
-pub slice_bounds-stop-items-end : goal.slice_bounds-stop-items-end
-slice_bounds-stop-items-end c = omega (arith, c.stop_count.ensures, stop_count-pow c.args.self.k c.args.self.small, c.requires)
-
-pub slice_bounds-stop-items-end-2 : goal.slice_bounds-stop-items-end-2
-slice_bounds-stop-items-end-2 c =
-    sym (length-take-le c.stop_count.result c.args.order.now (omega (arith, c.stop_count.ensures, stop_count-pow c.args.self.k c.args.self.small, c.requires)))
-
 pub loop-p-preserved : goal.loop-p-preserved
 loop-p-preserved c =
     let l = c.loop-p in let file : List ℕ = c.args.self.bytes.now in

@@ -1,5 +1,5 @@
 -- `orders::forks::ForkString::write_order` meets its contract: the places passed hold their stops.
-use mathlib.Core.Path.{◌≡◌, sym, ap, ap₂, ◌∙◌}
+use mathlib.Core.Path.{◌≡◌, ap, ap₂, ◌∙◌}
 use mathlib.Core.List.{List}
 use Prim.Native.Nat.{ℕ, ◌^◌, ◌≤◌, ◌<◌}
 use native.Mathlib.Omega.{arith}
@@ -13,13 +13,6 @@ use Rattle.tree.specs.Order.{stop_in}
 use Rattle.orders.specs.Lent.{forks_in}
 use Rattle.orders.proofs.Filled.{filled}
 use Rattle.orders.proofs.forks.ForkString.write_order.Goals as goal
-
-pub slice_bounds-stop-items-end : goal.slice_bounds-stop-items-end
-slice_bounds-stop-items-end c = omega (arith, c.stop_count.ensures, stop_count-pow c.args.self.k c.args.self.small, c.requires)
-
-pub slice_bounds-stop-items-end-2 : goal.slice_bounds-stop-items-end-2
-slice_bounds-stop-items-end-2 c =
-    sym (length-take-le c.stop_count.result c.args.order.now (omega (arith, c.stop_count.ensures, stop_count-pow c.args.self.k c.args.self.small, c.requires)))
 
 pub loop-p-preserved : goal.loop-p-preserved
 loop-p-preserved c =

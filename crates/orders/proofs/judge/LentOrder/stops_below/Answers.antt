@@ -1,16 +1,11 @@
 -- `orders::judge::LentOrder::stops_below` meets its contract: its test is that of the definition, number by number.
-use Rattle.std.proofs.Common.{◌≡◌, ◌^◌, ℕ, List, rules, tests, sym, ap, ◌∙◌, take, ltb, arith}
+use Rattle.std.proofs.Common.{◌≡◌, ◌^◌, ℕ, List, rules, tests, sym, ap, ◌∙◌, take, ltb}
 use Rattle.std.proofs.lemmas.Iterator.{YieldsList-from_slice}
 use Rattle.std.proofs.lemmas.Iterator.Search.{all_from_yields_List}
-use lib.Seq.{length-take-le}
 use Rattle.base.proofs.Size.{stop_count-pow}
 use Rattle.orders.specs.Allowed.{stops_below}
 use Rattle.orders.proofs.Allowed.{stops_below-all}
 use Rattle.orders.proofs.judge.LentOrder.stops_below.Goals as goal
-
-pub slice_bounds-iter-end : goal.slice_bounds-iter-end
-slice_bounds-iter-end c =
-    sym (length-take-le c.stop_count-n.result c.args.self.stops.now (omega (arith, c.stop_count-n.ensures, stop_count-pow c.args.self.k c.args.self.small, c.args.self.long)))
 
 pub returns : goal.returns
 returns c =

@@ -1,1 +1,0 @@
--- `planner::halve::fix_middle` meets its contract.
