@@ -46,7 +46,8 @@ impl Output {
         self.count = end;
     }
 
-    // Puts a number in decimal. There is no heap and so no `String`; of what `write!` puts into a writer that is no `String` no contract of the library says anything.
+    // Puts a number in decimal. There is no heap and so no `String`; of `write!` the library promises the text
+    // where it succeeds, and a number that is put here always is.
     fn put_decimal(&mut self, number: u64)
         requires { length (text_of self.old ++ decimal number) ≤ longest_text }
         ensures { text_of self.new ≡ text_of self.old ++ decimal number }

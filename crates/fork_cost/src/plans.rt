@@ -77,7 +77,7 @@ fn last_apart(order: &[u16], other: &[u16]) -> usize
     requires { (length order.now ≤ 1024) × (length other.now ≡ length order.now) }
     ensures { (result ≡ last_apart order.now other.now (length order.now)) × (result < 65536) }
 {
-    // Counted down: the library has no `rposition`, and `zip` no back end.
+    // Counted down from the last place.
     for p in (0..order.len()).rev() {
         if order[p] != other[p] {
             return p;
