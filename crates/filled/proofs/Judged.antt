@@ -89,7 +89,7 @@ module _ (k table : ℕ) (empties : List ℕ) (list bits work : ℕ) where
       }
 
   -- lengths that are accepted
-  lengths-fit : gives tt ≡ lengths_first k table (length empties) list bits work (gives tt) → Fit k table empties list bits work
+  pub lengths-fit : gives tt ≡ lengths_first k table (length empties) list bits work (gives tt) → Fit k table empties list bits work
   unfolding lengths_first
   lengths-fit e =
       let first = passed (leb k max_filled_k) wrong_k _ (omega arith) (ap number (sym e)) in

@@ -18,7 +18,7 @@ use Rattle.tree.proofs.Open.{shortest-wanted}
 use Rattle.groups.specs.Exchange.{exchange_fork}
 use Rattle.screen.specs.Records.{is_fork}
 use Rattle.screen.proofs.Records.{in-fork, fork-in}
-use Rattle.screen.proofs.Calls.{path-of}
+use Rattle.screen.proofs.Calls.{numbered-sound, path-of}
 use Rattle.fork_cost.specs.declared.ForkCost.{ForkCost}
 use Rattle.fork_cost.specs.Cost.{Cost, SizedCost, compared, cost_of, cost_room, cost_of_fork, fork_cost, told, CostIsGiven}
 use Rattle.fork_cost.specs.Truth.{TrueCost}
@@ -40,7 +40,7 @@ module _ (bytes : List ℕ) (highest version k : ℕ) (ss : List Stop) (means : 
       let test : ℕ → Outcome Unit = cost_room (length totals) (length pivots) (length orders) in
       let says : gives c ≡ giving (λ given. given.cost) (fork_cost bytes highest fork (length totals) (length pivots) (length orders)) = sym answer ∙ promise.said in
       let z = gives-accepted (fork_cost bytes highest fork (length totals) (length pivots) (length orders)) says in
-      let reads = (path-of bytes highest version k ss means highest test (room-numbered (length totals) (length pivots) (length orders)) (number-first (read_path bytes highest test) (cost_of_fork fork) z)).0 in
+      let reads = (path-of bytes highest version k ss means highest test (λ j. numbered-sound _ (room-numbered (length totals) (length pivots) (length orders) j)) (number-first (read_path bytes highest test) (cost_of_fork fork) z)).0 in
       let f = in-fork k fork (passed (is_fork k fork) no_such_fork _ (omega arith) (rw reads at z)).holds in
       let is : gives c ≡ gives (cost_of k (entry_of ss) fork) = rw (reads, fork-in k fork f.0 f.1) at says in
       (f.0, f.1, cc)

@@ -54,7 +54,7 @@ module _ (bytes : List ℕ) (known version k : ℕ) (ss : List Stop) (means : re
   -- an accepted reading by any caller is of this path, and its lengths suffice
   passed : (h name : ℕ) (shown : Records) (kept : Kept) → number (read_path bytes h (room_for shown kept)) ≡ 0 → Passed bytes h name shown kept version k ss (entry_of ss)
   passed h name shown kept z =
-      let w = calls.path-of bytes known version k ss means h (room_for shown kept) (room-numbered _ _ _ _ _) z in
+      let w = calls.path-of bytes known version k ss means h (room_for shown kept) (λ j. calls.numbered-sound _ (room-numbered _ _ _ _ _ j)) z in
       record { reads = w.0; small = calls.few bytes known version k ss means; takes = w.1; times = λ i j a b. refl }
 
   -- what an accepted keeping left
@@ -146,7 +146,7 @@ module _ (bytes : List ℕ) (known version k : ℕ) (ss : List Stop) (means : re
   exchange-passes h fork shown shown' (Ok u) call g =
       let room : ℕ → Outcome Unit = screen_room (length shown.order) (length shown.sums) in
       let z = done-good (exchange_records bytes h fork shown.order shown.sums) call.said in
-      let m = calls.means-of bytes known version k ss means h room (screen-numbered _ _) (number-first (read_path bytes h room) _ z) in
+      let m = calls.means-of bytes known version k ss means h room (λ j. calls.numbered-sound _ (screen-numbered _ _ j)) (number-first (read_path bytes h room) _ z) in
       records-are (entry_of ss) k shown'.order shown'.sums
       (calls.order-passes bytes h version k ss m fork shown.order shown.sums shown'.order shown'.sums call)
       (calls.sums-long bytes h version k ss m fork shown.order shown.sums shown'.order shown'.sums call)
@@ -162,7 +162,7 @@ module _ (bytes : List ℕ) (known version k : ℕ) (ss : List Stop) (means : re
   sums-pass h shown shown' (Ok u) e call g =
       let room : ℕ → Outcome Unit = screen_room (length shown.order) (length shown.sums) in
       let z = done-good (group_sums bytes h shown.order (length shown.sums)) call.said in
-      let m = calls.means-of bytes known version k ss means h room (screen-numbered _ _) (number-first (read_path bytes h room) _ z) in
+      let m = calls.means-of bytes known version k ss means h room (λ j. calls.numbered-sound _ (screen-numbered _ _ j)) (number-first (read_path bytes h room) _ z) in
       let w = calls.when-made bytes h version k ss m shown.order shown.sums shown'.sums call in
       over-passes shown shown' (order_in k shown.order) (rw e w.judged) (ap (order_in k) e) w.left
 

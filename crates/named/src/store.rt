@@ -7,6 +7,16 @@ ghost use Rattle.named.specs.Names.{names, used, start_of};
 use crate::judge::{Kept, USED};
 use base::stop_count;
 
+// Copies a slice over another of the same length. A loop, since `copy_from_slice` is a call of memmove, which the archive for C is to need of nobody.
+fn copy_over<T: Copy>(to: &mut [T], from: &[T])
+    requires { length to.old ≡ length from.now }
+    ensures { to.new ≡ from.now }
+{
+    for (i, place) in to.iter_mut().enumerate() {
+        *place = from[i];
+    }
+}
+
 // Keeps n stops and n sums under a name, and marks it. The one function that writes what is kept: a struct of the three `&mut` would serve no other.
 pub fn keep_under(
     k: u16,
@@ -26,8 +36,8 @@ pub fn keep_under(
     let n = stop_count(k);
     let at = (name - 1) * n;
     marks[name - 1] = USED;
-    stops[at..at + n].copy_from_slice(&order[..n]);
-    kept[at..at + n].copy_from_slice(&sums[..n]);
+    copy_over(&mut stops[at..at + n], &order[..n]);
+    copy_over(&mut kept[at..at + n], &sums[..n]);
 }
 
 // Brings the n stops and n sums of a name back to the screen.
@@ -39,6 +49,6 @@ pub fn bring_back(k: u16, name: usize, order: &mut [u16], sums: &mut [u64], kept
 {
     let n = stop_count(k);
     let from = (name - 1) * n;
-    order[..n].copy_from_slice(&kept.stops[from..from + n]);
-    sums[..n].copy_from_slice(&kept.sums[from..from + n]);
+    copy_over(&mut order[..n], &kept.stops[from..from + n]);
+    copy_over(&mut sums[..n], &kept.sums[from..from + n]);
 }

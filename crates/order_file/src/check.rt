@@ -91,8 +91,11 @@ impl<'a> FileBytes<'a> {
         requires { (byte_count (2 ^ self.k) ≤ length bits.old) × (4 + forks_place (2 ^ self.k) + byte_count (2 ^ self.k) ≤ length self.bytes.now) }
         ensures { bits.new ≡ over (take (byte_count (2 ^ self.entry.k)) (drop (4 + forks_place (2 ^ self.entry.k)) self.entry.bytes.now)) bits.old }
     {
-        let count = byte_count(self.k);
-        bits[..count].copy_from_slice(&self.string()[..count]);
+        let string = self.string();
+        // A loop, since `copy_from_slice` is a call of memmove, which the archive for C is to need of nobody.
+        for (i, byte) in bits[..byte_count(self.k)].iter_mut().enumerate() {
+            *byte = string[i];
+        }
     }
 
     // Judges the file but for its total. Its stops are stored.

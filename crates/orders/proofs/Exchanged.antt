@@ -51,7 +51,7 @@ module _ (k : ℕ) (order bits : List ℕ) (room : ℕ) where
     pub stops : JudgedOrder k order
     pub forks : JudgedForks k bits room
 
-  exchange-accepts : number order_judged ≡ 0 → only_forks k (forks_in k bits) ≡ true → JudgedExchange
+  pub exchange-accepts : number order_judged ≡ 0 → only_forks k (forks_in k bits) ≡ true → JudgedExchange
   exchange-accepts e f =
       let j = exchange-order e in
       record { stops = j.0; forks = record { small = j.0.small; long = j.1; places = j.2; only = f } }

@@ -10,7 +10,6 @@ pub mod Shift
 pub mod Lent
 pub mod Calls
 pub mod Way
-pub mod Places
 pub mod RoundTrip
 pub mod Inverted
 pub mod Exchanged

@@ -117,7 +117,8 @@ pub fn write_bits(k: u16, order: &[u16], bits: &mut [u8])
 {
     bits[..byte_count(k)].fill(0);
     let n = stop_count(k);
-    for (p, stop) in (1..n).zip(order[1..].iter()) {
-        mark_fork(k, p, usize::from(*stop), bits);
+    // By places, as the order is judged.
+    for p in 1..n {
+        mark_fork(k, p, usize::from(order[p]), bits);
     }
 }

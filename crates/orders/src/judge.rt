@@ -26,13 +26,14 @@ impl<'a> LentOrder<'a> {
         self.stops[..n].iter().all(|stop| (*stop as usize) < n)
     }
 
-    // Whether they are an allowed order, if all are below n.
-    fn is_allowed(self) -> bool
-        requires { stops_below (2 ^ self.k) (order_in self.k self.stops.now) ≡ true }
+    // Whether they are an allowed order, if all are below n. n is handed over: made here, it would be tested by a shift in each turn.
+    fn is_allowed(self, n: usize) -> bool
+        requires { (n ≡ 2 ^ self.k) × (stops_below (2 ^ self.k) (order_in self.k self.stops.now) ≡ true) }
         ensures { result ≡ is_allowed self.entry.k (order_in self.entry.k self.entry.stops.now) }
     {
-        for (p, stops) in (1..stop_count(self.k)).zip(self.stops.windows(2)) {
-            if !may_follow(p, stops[0], stops[1]) {
+        // By places: zipped with the pairs of neighbours, `order_total` and `fork_bits` took a quarter to a third more instructions.
+        for p in 1..n {
+            if !may_follow(p, self.stops[p - 1], self.stops[p]) {
                 return false;
             }
         }
@@ -46,7 +47,7 @@ impl<'a> LentOrder<'a> {
         if !self.stops_below() {
             return Err(Refusal::NoSuchStop);
         }
-        if !self.is_allowed() {
+        if !self.is_allowed(stop_count(self.k)) {
             return Err(Refusal::NotAllowed);
         }
         Ok(())

@@ -22,8 +22,9 @@ pub fn sum_moves(k: u16, order: &[u16], table: &[u32]) -> u64
     let n = stop_count(k);
     let count = n.min(order.len());
     let mut sum: u64 = 0;
-    for stops in order[..count].windows(2) {
-        sum += entry_at(n, table, stops[0], stops[1]);
+    // By places, as the order is judged.
+    for p in 0..count.saturating_sub(1) {
+        sum += entry_at(n, table, order[p], order[p + 1]);
     }
     sum
 }

@@ -3,7 +3,7 @@ use mathlib.Core.Path.{◌≡◌, refl, sym}
 use mathlib.Core.Bool.{Bool, true, false}
 use mathlib.Core.List.{List, [], ◌∷◌}
 use Prim.Native.Nat.{ℕ, zero, suc, ◌+◌, ◌*◌, ◌≤◌, ◌<◌, min}
-use native.Mathlib.Nat.{mul-le-mul_right, suc-mul, zero-add, zero-mul}
+use native.Mathlib.Nat.{mul-le-mul_left, mul-le-mul_right, suc-mul, zero-add, zero-mul}
 use native.Mathlib.Omega.{arith}
 use lib.Dec.{leb}
 use lib.ListN.{length, take, drop, drop_of_length-le}
@@ -48,6 +48,13 @@ place_is version i = refl
 pub place-suc : (version i : ℕ) → stop_place version (suc i) ≡ stop_place version i + stop_size version
 unfolding stop_place
 place-suc version i = rw suc-mul (omega arith)
+
+-- a stop's place, by the least and the largest size of those before it
+pub place-range : (version i : ℕ) → (8 + i * 18 ≤ stop_place version i) × (stop_place version i ≤ 8 + i * largest_stop)
+place-range version i =
+    let low : i * 18 ≤ i * stop_size version = mul-le-mul_left i (size-range version).0 in
+    let high : i * stop_size version ≤ i * largest_stop = mul-le-mul_left i (size-range version).1 in
+    rw (place_is version i) (omega arith)
 
 -- one more stop before another lies before it
 pub next_place : (i n size : ℕ) → i < n → i * size + size ≤ n * size

@@ -7,7 +7,7 @@ ghost use Rattle.path.specs.Local.{field_since};
 
 use crate::PathBytes;
 use crate::judge::{HEAD_SIZE, stop_size};
-use records::{BLEND_SINCE, DWELL_SINCE};
+use records::{BLEND_SINCE, DWELL_SINCE, to_signed};
 use stop::Stop;
 
 // The number of the two bytes from `at` on.
@@ -23,7 +23,7 @@ fn coordinate_in(bytes: &[u8], at: usize) -> i32
     requires { at + 4 ≤ length bytes.now }
     ensures { result ≡ signed (number_of (take 4 (drop at bytes.now))) }
 {
-    i32::from_le_bytes([bytes[at], bytes[at + 1], bytes[at + 2], bytes[at + 3]])
+    to_signed(u32::from_le_bytes([bytes[at], bytes[at + 1], bytes[at + 2], bytes[at + 3]]))
 }
 
 // The 2-byte field at `at` that stops have from version `since` on: 0 in an older version.

@@ -53,12 +53,16 @@ pub fn stop_size(version: u16) -> usize
 }
 
 impl PathBytes<'_> {
-    // Where the record of stop i begins. A place past the end of the bytes is as good as any other there.
+    // Where the record of stop i begins. A place past the end of the bytes is as good as any other there; a stop number of 2^59 or more, whose
+    // place would not fit, always lies there. A test that no small number meets: a saturating product takes longer, for each stop.
     fn place(self, i: usize) -> usize
         ensures { result ≡ min (stop_place self.entry.version i) (8 + length self.entry.bytes.now) }
     {
-        let before = i.saturating_mul(stop_size(self.version));
-        HEAD_SIZE + before.min(self.bytes.len())
+        let past = HEAD_SIZE + self.bytes.len();
+        if 0x0800_0000_0000_0000 <= i {
+            return past;
+        }
+        (HEAD_SIZE + i * stop_size(self.version)).min(past)
     }
 
     // Stop i; of bytes that were not judged, zeros where its record does not lie within them.

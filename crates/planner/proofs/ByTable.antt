@@ -4,7 +4,8 @@ use mathlib.Core.Bool.{Bool}
 use mathlib.Core.List.{List}
 use Prim.Native.Nat.{ℕ, ◌-◌, ◌^◌}
 use native.Mathlib.Nat.{zero-add}
-use Rattle.std.specs.Prelude.{None}
+use native.Mathlib.Omega.{arith}
+use Rattle.std.specs.Prelude.{Option, None, Some, IsSome, IfSome}
 use Rattle.walks.specs.Best.{at, plan}
 use Rattle.walks.specs.Halves.{segment}
 use Rattle.tree.specs.Layers.{layers}
@@ -30,6 +31,11 @@ pub layers-same : (k : ℕ) {f g : ℕ → ℕ → Bool} {s s₂ : ℕ → ℕ} 
 layers-same k {f} {g} {s} {s₂} {w} {w₂} a b c =
     ap (λ (x : ℕ → ℕ → Bool). layers k x s w) (fun_ext (λ p. fun_ext (a p)))
     ∙ ap₂ (layers k g) (fun_ext b) (fun_ext (λ p. fun_ext (λ j. fun_ext (c p j))))
+
+-- where costs were made, what clauses say of them holds of a value
+pub made : {A : Type 0} (o : Option A) {P Q : A → Type 0} → IsSome o → IfSome o P → IfSome o Q → (x : A) × P x × Q x
+made None s p q = let z : ◌≡◌ {A = ℕ} 0 1 = cc in absurd (omega arith)
+made (Some x) s p q = (x, p, q)
 
 -- by a table alone, with no closing stop, the plan is the wanted order
 pub table-plan : {n : ℕ} (k : ℕ) (table : List ℕ) → n ≡ 2 ^ k → plan (all_walks (table_costing n table None)) (n - 1) ≡ at (wanted_plan k table).total (backward (wanted_plan k table).order)

@@ -7,7 +7,7 @@
 -- can be reached (`first_found`, `second-found`), and when they are solved the block is (`solved-join`). The last stop of all is the least of the last row
 -- over all places (`ends-fixed`). So the order, read from its end back, is the best walk through all places (`finished`): for any costs by place. The
 -- rule for equals needs no comparison of orders: candidates are weighed in increasing number, and a later one is kept only if it is cheaper, so
--- the best walk has the smaller stop at the first difference, read from its end back. By a table the best walk is the wanted order (`table-left`).
+-- the best walk has the smaller stop at the first difference, read from its end back. By a table the best walk is the wanted order (`table-plan`).
 --
 -- Numbers and buffers.
 pub mod Sizes

@@ -21,9 +21,5 @@ pub fn held(n: usize, fork: usize, exchanged: bool) -> Option<Held>
     if fork == 0 {
         return None;
     }
-    Some(Held {
-        fork,
-        level: level(n, fork),
-        exchanged,
-    })
+    Held::new(fork, level(n, fork), exchanged)
 }

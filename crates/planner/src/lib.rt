@@ -4,6 +4,7 @@
 // plain enumeration. The private module `halve` holds the method, halving the places by recursion, for any costs by place; the rows of best
 // totals are made by the crate `rows`. `plan` is the instance whose costs come from a table. `totals` and `pivots` stay two parameters, as in `rows` and for its reason.
 // So each function that takes them asks for their lengths. `n` and `table` of a tour stay two as well: each last stop makes costs of its own from them.
+// Costs are made by `new` of the types of `rows`, which tests what the slices are asked for: the lengths were judged before, so that there are some is proved.
 
 #![tactic(auto)]
 
@@ -83,11 +84,7 @@ pub fn plan(
     ensures { PlansOrder k table order totals pivots result }
 {
     judge_lengths(k, table.len(), order.len(), totals.len(), pivots.len())?;
-    let costs = ByTable {
-        n: base::stop_count(k),
-        table,
-        closing: None,
-    };
+    let costs = ByTable::new(base::stop_count(k), table, None).unwrap();
     Ok(halve::run(costs, order, totals, pivots, k as u32))
 }
 
@@ -131,12 +128,8 @@ pub fn plan_places(
         totals.len(),
         pivots.len(),
     )?;
-    let moves = ByTable {
-        n: base::stop_count(k),
-        table,
-        closing: None,
-    };
-    let costs = ByPlaces { moves, places };
+    let moves = ByTable::new(base::stop_count(k), table, None).unwrap();
+    let costs = ByPlaces::new(moves, places).unwrap();
     Ok(halve::run(costs, order, totals, pivots, k as u32).total)
 }
 
@@ -206,7 +199,7 @@ pub fn plan_held(
     judge_held(path, fork, order.len(), totals.len(), pivots.len())?;
     let n = base::stop_count(path.k);
     let held = held_fork::held(n, fork as usize, exchanged);
-    let costs = ByPath { n, path, held };
+    let costs = ByPath::new(n, path, held).unwrap();
     Ok(halve::run(costs, order, totals, pivots, path.k as u32).total)
 }
 

@@ -20,11 +20,7 @@ fn closed_total(
     requires { TourSizes n k (length table.now) × (last < n) × (length totals.old ≡ n + n) × (length pivots.old ≡ n + n) }
     ensures { EndWeighed n k table.now last result }
 {
-    let costs = ByTable {
-        n,
-        table,
-        closing: Some(last),
-    };
+    let costs = ByTable::new(n, table, Some(last));
     rows::pass(costs, totals, pivots, 0, 0, 0, k);
     totals[n + last]
 }
@@ -60,11 +56,7 @@ fn best_tour(
     let held = best_end(n, table, totals, pivots, k);
     let last = held.stop;
     order[n - 1] = last as u16;
-    let costs = ByTable {
-        n,
-        table,
-        closing: Some(last),
-    };
+    let costs = ByTable::new(n, table, Some(last)).unwrap();
     solve(costs, order, totals, pivots, 0, k);
     held.total
 }

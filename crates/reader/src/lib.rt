@@ -10,6 +10,8 @@ mod draws;
 
 use base::Refusal;
 pub use draws::{draw_from, draw_number};
+// The same by its other name: one draw from a cursor.
+pub use draws::draw_from as draw_at;
 use stop::Stop;
 
 // The stops of a path, drawn one after another: the bytes, the cursor and the version. The cursor is 0 before the first draw, with the

@@ -1,20 +1,21 @@
 -- The lengths of records: the rule holds over the whole table, by one computed test; and the length of each kind as a number.
 use mathlib.Core.Path.{◌≡◌, refl, ◌∙◌}
-use mathlib.Core.Bool.{Bool, true, false, ◌&&◌}
+use mathlib.Core.Bool.{Bool, true, false}
 use mathlib.Core.List.{List, [], ◌∷◌}
-use Prim.Native.Nat.{ℕ, zero, suc, ◌+◌, ◌*◌, ◌/◌, ◌≤◌, ◌<◌}
+use Prim.Native.Nat.{ℕ, ◌+◌, ◌*◌, ◌/◌, ◌≤◌, ◌<◌}
 use native.Mathlib.Omega.{arith}
 use lib.Dec.{T, eqb, eqb→eq, leb, leb→le}
 use lib.ListN.{length, get_or}
-use borrow.Author.Tests.{leb-true}
+use borrow.Author.Tests.{le-leb, lt-leb, leb-true, leb-false}
 use Rattle.records.specs.Record.{record_length, fields, stop_fields, later_fields, oldest_version, part_for, sum, is_kind}
 use Rattle.records.proofs.Table.{both, both_left, both_right, every, at}
 use Rattle.records.proofs.Versions.{Layout, plain, blended, dwelling, layout, later-few, later-again}
 
--- the numbers of the constant table: a row for each kind from 1 on, a column for each version
+-- the numbers of the constant table: a row for each kind, a column for each version
 unfoldable pub lengths : List (List ℕ)
 lengths =
-    (6 ∷ 6 ∷ 6 ∷ [])
+    (0 ∷ 0 ∷ 0 ∷ [])
+    ∷ (6 ∷ 6 ∷ 6 ∷ [])
     ∷ (16 ∷ 18 ∷ 20 ∷ [])
     ∷ (2 ∷ 2 ∷ 2 ∷ [])
     ∷ (4 ∷ 4 ∷ 4 ∷ [])
@@ -25,24 +26,24 @@ lengths =
 
 -- three lengths that pass a test of each by its kind and column
 row-test : (ℕ → ℕ → ℕ → Bool) → ℕ → List ℕ → Bool
-row-test test place row = both (eqb (length row) 3) (every (test place) 0 row)
+row-test test kind row = both (eqb (length row) 3) (every (test kind) 0 row)
 
 -- a test of all rows tells of each entry
-entry : (test : ℕ → ℕ → ℕ → Bool) → T (every (row-test test) 0 lengths) → (place column : ℕ) → place < 7 → column < 3 → T (test place column (get_or (get_or lengths place []) column 0))
+entry : (test : ℕ → ℕ → ℕ → Bool) → T (every (row-test test) 0 lengths) → (kind column : ℕ) → kind < 8 → column < 3 → T (test kind column (get_or (get_or lengths kind []) column 0))
 unfolding lengths row-test
-entry test all place column h k =
-    let row : List ℕ = get_or lengths place [] in
-    let here : T (row-test test place row) = at (row-test test) lengths [] all place h in
-    let long : length row ≡ 3 = eqb→eq (length row) 3 (both_left (eqb (length row) 3) (every (test place) 0 row) here) in
-    at (test place) row 0 (both_right (eqb (length row) 3) (every (test place) 0 row) here) column (rw long k)
+entry test all kind column h k =
+    let row : List ℕ = get_or lengths kind [] in
+    let here : T (row-test test kind row) = at (row-test test) lengths [] all kind h in
+    let long : length row ≡ 3 = eqb→eq (length row) 3 (both_left (eqb (length row) 3) (every (test kind) 0 row) here) in
+    at (test kind) row 0 (both_right (eqb (length row) 3) (every (test kind) 0 row) here) column (rw long k)
 
-right : (place column x : ℕ) → Bool
-right place column x = eqb x (record_length (suc place) (oldest_version + column) 0)
+right : (kind column x : ℕ) → Bool
+right kind column x = eqb x (record_length kind (oldest_version + column) 0)
 
 -- the rule at each entry
-pub lengths-rule : (place column : ℕ) → place < 7 → column < 3 → get_or (get_or lengths place []) column 0 ≡ record_length (suc place) (oldest_version + column) 0
+pub lengths-rule : (kind column : ℕ) → kind < 8 → column < 3 → get_or (get_or lengths kind []) column 0 ≡ record_length kind (oldest_version + column) 0
 unfolding lengths row-test right record_length fields stop_fields later_fields part_for sum is_kind
-lengths-rule place column h k = eqb→eq (get_or (get_or lengths place []) column 0) (record_length (suc place) (oldest_version + column) 0) (entry right tt place column h k)
+lengths-rule kind column h k = eqb→eq (get_or (get_or lengths kind []) column 0) (record_length kind (oldest_version + column) 0) (entry right tt kind column h k)
 
 -- every version has the lengths of the column of its later fields
 same-column : (kind version n : ℕ) → record_length kind (oldest_version + later_fields version) n ≡ record_length kind version n
@@ -54,8 +55,13 @@ pub length-unknown : (kind version n : ℕ) → is_kind kind ≡ false → recor
 unfolding record_length
 length-unknown kind version n h = rw h
 
-pub table-length : (place version : ℕ) → place < 7 → get_or (get_or lengths place []) (later_fields version) 0 ≡ record_length (suc place) version 0
-table-length place version k = lengths-rule place (later_fields version) k (omega (arith, later-few version)) ∙ same-column (suc place) version 0
+-- and a number above 7 is none
+pub above-unknown : (kind : ℕ) → 7 < kind → is_kind kind ≡ false
+unfolding is_kind
+above-unknown kind h = rw (le-leb 1 kind (omega arith), lt-leb kind 7 h)
+
+pub table-length : (kind version : ℕ) → kind ≤ 7 → get_or (get_or lengths kind []) (later_fields version) 0 ≡ record_length kind version 0
+table-length kind version k = lengths-rule kind (later_fields version) (omega arith) (omega (arith, later-few version)) ∙ same-column kind version 0
 
 -- ---- the length of each kind
 
@@ -99,23 +105,17 @@ refused-length version = refl
 abbrev pub longest_length : ℕ
 longest_length = 20
 
-small : (place column x : ℕ) → Bool
-small place column x = leb x longest_length
+small : (kind column x : ℕ) → Bool
+small kind column x = leb x longest_length
 
-entry-small : (place column : ℕ) → place < 7 → column < 3 → get_or (get_or lengths place []) column 0 ≤ longest_length
+entry-small : (kind column : ℕ) → kind < 8 → column < 3 → get_or (get_or lengths kind []) column 0 ≤ longest_length
 unfolding lengths row-test small
-entry-small place column h k = leb→le (get_or (get_or lengths place []) column 0) longest_length (entry small tt place column h k)
-
-and-false : (a b : Bool) → b ≡ false → (a && b) ≡ false
-and-false true b e = e
-and-false false b e = refl
+entry-small kind column h k = leb→le (get_or (get_or lengths kind []) column 0) longest_length (entry small tt kind column h k)
 
 pub length-small : (kind version : ℕ) → record_length kind version 0 ≤ longest_length
-unfolding is_kind
-length-small zero version = rw (length-unknown zero version 0 refl) (omega arith)
-length-small (suc place) version = by_kind (leb (suc place) 7) refl
+length-small kind version = by_kind (leb kind 7) refl
   where
-    by_kind : (a : Bool) → leb (suc place) 7 ≡ a → record_length (suc place) version 0 ≤ longest_length
-    by_kind false p = rw (length-unknown (suc place) version 0 (and-false (leb 1 (suc place)) (leb (suc place) 7) p)) (omega arith)
+    by_kind : (a : Bool) → leb kind 7 ≡ a → record_length kind version 0 ≤ longest_length
+    by_kind false p = rw (length-unknown kind version 0 (above-unknown kind (leb-false _ _ p))) (omega arith)
     by_kind true p =
-        rw (← table-length place version (omega (arith, leb-true (suc place) 7 p))) (entry-small place (later_fields version) (omega (arith, leb-true (suc place) 7 p)) (omega (arith, later-few version)))
+        rw (← table-length kind version (leb-true _ _ p)) (entry-small kind (later_fields version) (omega (arith, leb-true kind 7 p)) (omega (arith, later-few version)))

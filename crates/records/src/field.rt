@@ -61,28 +61,30 @@ fn put<const N: usize>(s: &mut [u8], at: usize, bytes: [u8; N])
 pub fn put16(s: &mut [u8], at: usize, value: u16)
     ensures { s.new ≡ put s.old at (bytes_of 2 value) }
 {
-    put(s, at, value.to_le_bytes())
+    put::<2>(s, at, value.to_le_bytes())
 }
 
 // Writes an 8-byte field at `at`, or nothing where it does not fit whole.
 pub fn put64(s: &mut [u8], at: usize, value: u64)
     ensures { s.new ≡ put s.old at (bytes_of 8 value) }
 {
-    put(s, at, value.to_le_bytes())
+    put::<8>(s, at, value.to_le_bytes())
 }
 
 // Writes a signed 4-byte field at `at`, or nothing where it does not fit whole.
 pub fn put_signed(s: &mut [u8], at: usize, value: i32)
     ensures { s.new ≡ put s.old at (bytes_of 4 (unsigned value)) }
 {
-    put(s, at, value.to_le_bytes())
+    put::<4>(s, at, value.to_le_bytes())
 }
 
-// Writes two 2-byte fields at `at`, one after the other, or nothing where they do not fit whole.
+// Writes two 2-byte fields at `at`, one after the other, or nothing where they do not fit whole. Each by its own put: through one array of four
+// bytes the compiler takes them apart and together again.
 pub fn put_pair(s: &mut [u8], at: usize, first: u16, second: u16)
     ensures { s.new ≡ put s.old at (bytes_of 2 first ++ bytes_of 2 second) }
 {
-    let [a, b] = first.to_le_bytes();
-    let [c, d] = second.to_le_bytes();
-    put(s, at, [a, b, c, d])
+    if at <= s.len() && 4 <= s.len() - at {
+        put16(s, at, first);
+        put16(s, at + 2, second);
+    }
 }

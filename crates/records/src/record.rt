@@ -52,8 +52,9 @@ pub const BLEND_SINCE: u16 = 5;
 // The first version whose stops have a dwell.
 pub const DWELL_SINCE: u16 = 6;
 
-// The lengths that records say, without the part for n of kinds 5 and 6: a row for each kind, with versions 4, 5 and 6.
-const LENGTHS: [[usize; 3]; 7] = [
+// The lengths that records say, without the part for n of kinds 5 and 6: a row for each kind from 0 on, which is none, with versions 4, 5 and 6.
+const LENGTHS: [[usize; 3]; 8] = [
+    [0, 0, 0],
     [6, 6, 6],
     [16, 18, 20],
     [2, 2, 2],
@@ -71,30 +72,30 @@ impl Kind {
         self as u16
     }
 
-    // The length that a record of this kind and a version says, without the part for n of kinds 5 and 6. A column of the table has the lengths
-    // of the versions with as many of a stop's later fields, blend and dwell.
+    // The length that a record of this kind and a version says, without the part for n of kinds 5 and 6.
     pub fn length(self, version: u16) -> usize
         ensures { result ≡ record_length (kind_number self) version 0 }
     {
-        let column = if version < BLEND_SINCE {
-            0
-        } else if version < DWELL_SINCE {
-            1
-        } else {
-            2
-        };
-        LENGTHS[self as usize - 1][column]
+        record_length(self.number(), version)
     }
 }
 
-// The same of a number; 0 for no kind. A call takes any number, which a `Kind` would not.
+// The length of a kind by its number; 0 for no kind. A call takes any number, which a `Kind` would not. A column of the table has the lengths of the
+// versions with as many of a stop's later fields, blend and dwell. It is read at a constant column, at no memory access where the kind is known.
 pub fn record_length(kind: u16, version: u16) -> usize
     ensures { result ≡ record_length kind version 0 }
 {
-    match Kind::try_from(kind) {
-        Ok(known) => known.length(version),
-        Err(_) => 0,
+    if 7 < kind {
+        return 0;
     }
+    let row = kind as usize;
+    if version < BLEND_SINCE {
+        return LENGTHS[row][0];
+    }
+    if version < DWELL_SINCE {
+        return LENGTHS[row][1];
+    }
+    LENGTHS[row][2]
 }
 
 // Whether a record of a kind and length stands at `at`, or the refusal. The kind may be any number.

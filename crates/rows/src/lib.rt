@@ -1,9 +1,11 @@
 // Rows of best totals: for any costs by place, one pass over a block of places finds for each stop the best walk to it and its stop in the middle
 // place (Algorithm 2 of document 000 makes one pass for each block that it halves).
 //
-// No public function has a `requires` but the readings of the trait `Costs`, which ask for places and stops that there are. The contract of `pass` cites `specs/Pass.antt` and, through it, the best walks of `walks`. What a move costs is known to the
-// impls of `Costs` alone, in `tables` and `by_path`, and the compiler makes the code of a pass for each of them; `way` weighs candidates for up to four stops in
-// registers, `row` makes one row from another and `leaves` three at once, `block` makes those of a block of places, `ready` tests what a pass is asked for.
+// No public function has a `requires` but the readings of the trait `Costs`, which ask for places and stops that there are. `pass` and `start_cost` take
+// costs or none, as `new` of `ByTable`, `ByPlaces` and `ByPath` answers, so that they are total for any slices. The contract of `pass` cites
+// `specs/Pass.antt` and, through it, the best walks of `walks`. What a move costs is known to the impls of `Costs` alone, in `tables` and `by_path`, and the
+// compiler makes the code of a pass for each of them; `way` weighs candidates for up to four stops in registers, `row` makes one row from another and
+// `leaves` three at once, `block` makes those of a block of places, `ready` tests what a pass is asked for.
 //
 // `totals` and `pivots` stay two parameters: a struct that holds both `&mut` would ask two clauses more of each function that writes through it, that the slices are still
 // the caller's, and is no plainer.
@@ -22,6 +24,7 @@ mod row;
 mod tables;
 mod way;
 
+ghost use Rattle.std.specs.Prelude.{◌≡◌, None, IfSome};
 ghost use Rattle.rows.specs.Pass.{MakesPass, StartTold};
 
 pub use by_path::ByPath;
@@ -31,8 +34,10 @@ pub use tables::{ByPlaces, ByTable};
 
 // One pass over the 2^m places from `left` on, for the 2^m stops from `base` on, after the stop `before` (before place 0 there is none, and it is not
 // looked at but for being a stop). The last row is left in the numbers n to 2n - 1 of `totals` and `pivots`; the answer is the number of weighings.
+// No costs, which is what `new` answers for slices that do not suffice, are refused as any other call that is not asked for rightly: 0, and nothing is written.
+// So `pass(ByTable::new(n, table, None), ..)` is total for any n and any slices.
 pub fn pass<C: Costs>(
-    costs: C,
+    costs: Option<C>,
     totals: &mut [u64],
     pivots: &mut [u16],
     before: usize,
@@ -40,24 +45,31 @@ pub fn pass<C: Costs>(
     base: usize,
     m: u32,
 ) -> u64
-    ensures { MakesPass (C.costing costs) totals pivots before left base m result }
+    ensures made { IfSome costs (λ c. MakesPass (C.costing c) totals pivots before left base m result) }
+    ensures refused { costs ≡ None → (result ≡ 0) × (totals.new ≡ totals.old) × (pivots.new ≡ pivots.old) }
 {
+    let Some(costs) = costs else {
+        return 0;
+    };
     let size = totals.len();
     let marks = pivots.len();
-    if !ready::ready(costs.stops(), size, marks, before, left, base, m) {
-        return 0;
+    if ready::ready(costs.stops(), size, marks, before, left, base, m) {
+        let stops = row::two_to(m);
+        row::first_row(costs, totals, pivots, before, left, base, stops);
+        block::block(costs, totals, pivots, left, base, m)
+    } else {
+        0
     }
-    let stops = row::two_to(m);
-    row::first_row(costs, totals, pivots, before, left, base, stops);
-    block::block(costs, totals, pivots, left, base, m)
 }
 
-// What stop i costs in place 0, and 0 where there is no such stop.
-pub fn start_cost<C: Costs>(costs: C, i: usize) -> u64
-    ensures { StartTold (C.costing costs) i result }
+// What stop i costs in place 0, and 0 where there are no costs or no such stop: total for any slices as `pass` is.
+pub fn start_cost<C: Costs>(costs: Option<C>, i: usize) -> u64
+    ensures told { IfSome costs (λ c. StartTold (C.costing c) i result) }
+    ensures refused { costs ≡ None → result ≡ 0 }
 {
-    if costs.stops() <= i {
-        return 0;
+    match costs {
+        Some(costs) if i < costs.stops() => costs.of_start(i),
+        Some(_) => 0,
+        None => 0,
     }
-    costs.of_start(i)
 }

@@ -1,6 +1,6 @@
 -- The laws of the two calls, by their promises alone: what anybody has who calls them with the bytes of one path, and lets nobody else write
 -- the order and the sums in between.
-use mathlib.Core.Path.{◌≡◌, refl, sym, ap, ◌∙◌}
+use mathlib.Core.Path.{◌≡◌, refl, sym, ap, subst, ◌∙◌}
 use mathlib.Core.List.{List, ◌++◌}
 use mathlib.Core.Logic.{◌≢◌}
 use Prim.Native.Nat.{ℕ, zero, suc, ◌/◌, ◌^◌, ◌≤◌, ◌<◌}
@@ -14,10 +14,10 @@ use Rattle.std.specs.Prelude.{Result, Ok}
 use Rattle.base.specs.declared.Refusal.{Refusal}
 use Rattle.base.specs.Outcome.{Outcome, gives, refuses, and_then, number, over}
 use Rattle.base.specs.Size.{max_k}
-use Rattle.base.proofs.Numbered.{Numbered, refusal}
+use Rattle.base.proofs.Numbered.{Numbered, given, refusal}
 use Rattle.base.proofs.Outcome.{passed, number-first, number-giving, done-good, over-at, over-front, over-long}
 use Rattle.stop.specs.declared.Stop.{Stop}
-use Rattle.path.specs.Path.{Path, path, read_path, any_size}
+use Rattle.path.specs.Path.{PathHead, Path, path, read_on, read_head, read_path, any_size}
 use Rattle.path.proofs.Inverse.{accepted-of, read_same, read-once}
 use Rattle.path.proofs.Numbers.{path-numbered}
 use Rattle.times.specs.Table.{entry_of}
@@ -46,13 +46,32 @@ over-back n a b x e l f =
     let rest : drop n b ≡ drop n a = ap (drop n) (f ∙ over-at n x a e) ∙ drop_at x (drop n a) n e in
     over-at n (take n a) b (length-take-le n a l) ∙ ap (λ (r : List ℕ). take n a ++ r) rest ∙ take-append-drop n a
 
+-- a test that refuses by the numbers of the table, and refused nothing, passed
+pub numbered-sound : (o : Outcome Unit) → Numbered o → number o ≡ 0 → o ≡ gives tt
+numbered-sound (gives u) i z = refl
+numbered-sound (refuses n) (refusal m i) z = let first = i.first in absurd (omega arith)
+
+-- a reading that refused nothing is that of a caller who takes every k, where a test that gives 0 passed
+reads-any : (bytes : List ℕ) (h : ℕ) (test : ℕ → Outcome Unit) → ((j : ℕ) → number (test j) ≡ 0 → test j ≡ gives tt) → number (read_path bytes h test) ≡ 0
+    → read_path bytes h test ≡ read_path bytes h any_size
+unfolding read_path read_on
+reads-any bytes h test sound z = by (read_head bytes h) z
+  where
+    passes : (o : Outcome Unit) (next : Unit → Outcome Path) → (number o ≡ 0 → o ≡ gives tt) → number (and_then o next) ≡ 0 → and_then o next ≡ next tt
+    passes o next f z = ap (λ (x : Outcome Unit). and_then x next) (f (number-first o next z))
+
+    by : (o : Outcome PathHead) → number (and_then o (read_on test)) ≡ 0 → and_then o (read_on test) ≡ and_then o (read_on any_size)
+    by (gives d) z = passes (test d.k) _ (sound d.k) z
+    by (refuses n) z = refl
+
 module _ (bytes : List ℕ) (highest version k : ℕ) (ss : List Stop) (means : read_path bytes highest any_size ≡ gives (path version k ss)) where
   -- ---- what an answer tells, and when a call is accepted
 
   -- a call whose path is not refused reads that path, whatever version its caller knows, and what it tests in the head passes
-  pub path-of : (h : ℕ) (test : ℕ → Outcome Unit) → ((j : ℕ) → Numbered (test j)) → number (read_path bytes h test) ≡ 0
+  pub path-of : (h : ℕ) (test : ℕ → Outcome Unit) → ((j : ℕ) → number (test j) ≡ 0 → test j ≡ gives tt) → number (read_path bytes h test) ≡ 0
       → (read_path bytes h test ≡ gives (path version k ss)) × (test k ≡ gives tt)
-  path-of h test numbered z = by (read_path bytes h test) refl z (path-numbered bytes h test numbered)
+  path-of h test sound z =
+      by (read_path bytes h test) refl z (subst Numbered (sym (reads-any bytes h test sound z)) (path-numbered bytes h any_size (λ j. given tt)))
     where
       by : (o : Outcome Path) → read_path bytes h test ≡ o → number o ≡ 0 → Numbered o → (o ≡ gives (path version k ss)) × (test k ≡ gives tt)
       by (gives q) e n i =
@@ -61,15 +80,15 @@ module _ (bytes : List ℕ) (highest version k : ℕ) (ss : List Stop) (means : 
           (ap gives same, rw j at (accepted-of bytes h test q.version q.k q.stops e).takes)
       by (refuses n) e z (refusal m i) = let first = i.first in absurd (omega arith)
 
-  pub means-of : (h : ℕ) (test : ℕ → Outcome Unit) → ((j : ℕ) → Numbered (test j)) → number (read_path bytes h test) ≡ 0
+  pub means-of : (h : ℕ) (test : ℕ → Outcome Unit) → ((j : ℕ) → number (test j) ≡ 0 → test j ≡ gives tt) → number (read_path bytes h test) ≡ 0
       → read_path bytes h any_size ≡ gives (path version k ss)
-  means-of h test numbered z = read_same bytes h test any_size version k ss (path-of h test numbered z).0 refl
+  means-of h test sound z = read_same bytes h test any_size version k ss (path-of h test sound z).0 refl
 
   -- for an order and sums the buffers are long enough
   path-is : (order sums : ℕ) → number (read_path bytes highest (screen_room order sums)) ≡ 0
       → (read_path bytes highest (screen_room order sums) ≡ gives (path version k ss)) × (2 ^ k ≤ order) × (2 ^ k ≤ sums)
   path-is order sums z =
-      let w = path-of highest (screen_room order sums) (room-numbered order sums) z in
+      let w = path-of highest (screen_room order sums) (λ j. numbered-sound _ (room-numbered order sums j)) z in
       let l = room-long order sums k (ap number w.1) in
       (w.0, l.0, l.1)
 

@@ -23,8 +23,9 @@ pub fn place_between(k: u16, v: usize, order: &[u16]) -> usize
     ensures { result ≡ between k (order_in k order.now) v }
 {
     let n = stop_count(k);
-    for (p, stop) in (1..n).zip(order[1..].iter()) {
-        if fork_between(k, p, *stop) == v {
+    // By places, as an order is judged.
+    for p in 1..n {
+        if fork_between(k, p, order[p]) == v {
             return p;
         }
     }

@@ -13,6 +13,8 @@ use base::{Refusal, stop_count};
 use path::{PathBytes, judge_head};
 
 // A path whose stops and end are judged, where each buffer that is lent with it has at least so many places; fewer than n are 8.
+// Inlined, since its answer is a struct in memory otherwise: the calls of one stop took a tenth more instructions.
+#[inline(always)]
 pub fn judge_path(bytes: &[u8], highest: u16, places: usize) -> Result<PathBytes<'_>, Refusal>
     ensures path { giving heading_of (said result) ≡ giving heading (read_path bytes.now highest (places_room places)) }
     ensures same { IfOk result (λ p. p.bytes.now ≡ bytes.now) }

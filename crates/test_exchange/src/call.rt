@@ -1,6 +1,7 @@
 // Calls of the exchange, and their answers written.
 
 use std::io;
+use test_support::part;
 use test_support::write::{self, Numbers};
 
 // An order that calls are made on: k, and its stops.
@@ -16,22 +17,23 @@ impl<'a> Order<'a> {
         Order { k, stops }
     }
 
-    // Exchanges a string's forks, into so many places, and writes the answer: what the lent places then hold.
-    pub fn exchange<R: Print + AllocGlobal>(
+    // Exchanges a string's forks, into so many places, at most 1025, and writes the answer: what the lent places then hold.
+    pub fn exchange<R: Print>(
         self,
         rt: &R,
         name: &str,
         bits: &[u8],
         room: usize,
     ) -> io::Result<()> {
-        let mut out = vec![in rt.alloc(); 77u16; room]?;
+        let mut all = [77u16; 1025];
+        let out = part::first_mut(&mut all, room);
         print!(rt; "{name}")?;
-        let made = orders::exchange(self.k, self.stops, bits, &mut out);
-        write::made(rt, "order", made, &out)
+        let made = orders::exchange(self.k, self.stops, bits, out);
+        write::made(rt, "order", made, out)
     }
 
     // Exchanges the forks x, and then the forks y in what that left.
-    fn in_sequence<R: Print + AllocGlobal>(
+    fn in_sequence<R: Print>(
         self,
         rt: &R,
         name: &str,
@@ -45,7 +47,7 @@ impl<'a> Order<'a> {
     }
 
     // Exchanges two sets in both sequences, and then their symmetric difference at once: three times the same order.
-    pub fn both<R: Print + AllocGlobal>(
+    pub fn both<R: Print>(
         self,
         rt: &R,
         x: &[u8],
@@ -60,7 +62,7 @@ impl<'a> Order<'a> {
     }
 
     // Exchanges a set twice: the order itself.
-    pub fn twice<R: Print + AllocGlobal>(self, rt: &R, x: &[u8], room: usize) -> io::Result<()> {
+    pub fn twice<R: Print>(self, rt: &R, x: &[u8], room: usize) -> io::Result<()> {
         println!(rt; "a set twice from{}", Numbers(self.stops))?;
         self.exchange(rt, "once", x, room)?;
         self.in_sequence(rt, "twice", x, x, room)

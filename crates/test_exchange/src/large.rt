@@ -19,7 +19,7 @@ fn known_order() -> [u16; 1025] {
 }
 
 // Two sets, and a set twice.
-fn sets<R: Print + AllocGlobal>(rt: &R) -> io::Result<()> {
+fn sets<R: Print>(rt: &R) -> io::Result<()> {
     let stops = known_order();
     let order = Order::of(10, &stops);
     let x = string(0x5a, 17, 0xe1);
@@ -56,7 +56,7 @@ const REFUSED: [(&str, usize, u16, u8, usize, usize); 8] = [
 ];
 
 // The exchanges for k = 10.
-pub fn run<R: Print + AllocGlobal>(rt: &R) -> io::Result<()> {
+pub fn run<R: Print>(rt: &R) -> io::Result<()> {
     sets(rt)?;
     for (name, at, stop, first, bytes, room) in REFUSED {
         let mut stops = known_order();

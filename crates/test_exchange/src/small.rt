@@ -64,7 +64,7 @@ const TWO_FAULTS: [Exchange; 9] = [
 ];
 
 // Exchanges, one after another.
-fn exchanges<R: Print + AllocGlobal>(rt: &R, all: &[Exchange]) -> io::Result<()> {
+fn exchanges<R: Print>(rt: &R, all: &[Exchange]) -> io::Result<()> {
     for (name, k, stops, bits, room) in all {
         Order::of(*k, stops).exchange(rt, name, bits, *room)?;
     }
@@ -72,7 +72,7 @@ fn exchanges<R: Print + AllocGlobal>(rt: &R, all: &[Exchange]) -> io::Result<()>
 }
 
 // Two sets, and a set twice.
-fn two_sets<R: Print + AllocGlobal>(rt: &R) -> io::Result<()> {
+fn two_sets<R: Print>(rt: &R) -> io::Result<()> {
     Order::of(1, &[0, 1]).both(rt, &[0x02], &[0x02], &[0x00], 3)?;
     Order::of(2, &[2, 3, 1, 0]).both(rt, &[0x06], &[0x0c], &[0x0a], 5)?;
     Order::of(3, EIGHT).both(rt, &[0x2a], &[0x4e], &[0x64], 9)?;
@@ -83,7 +83,7 @@ fn two_sets<R: Print + AllocGlobal>(rt: &R) -> io::Result<()> {
 }
 
 // The exchanges for k from 0 to 3.
-pub fn run<R: Print + AllocGlobal>(rt: &R) -> io::Result<()> {
+pub fn run<R: Print>(rt: &R) -> io::Result<()> {
     exchanges(rt, &ONE_SET)?;
     two_sets(rt)?;
     exchanges(rt, &REFUSED)?;

@@ -30,24 +30,24 @@ pub struct Asked {
 
 impl Asked {
     // Plans with so much lent, and writes the line.
-    pub fn example<R: Print + AllocGlobal>(self, rt: &R, lengths: Lengths) -> io::Result<()> {
+    pub fn example<R: Print>(self, rt: &R, lengths: Lengths) -> io::Result<()> {
         let Asked { k, rule, n, .. } = self;
-        let table = table::make(rt.alloc(), n, lengths.table, Rule(rule))?;
+        let mut table = [0u32; 4097];
+        let table = table::make(&mut table, n, lengths.table, Rule(rule));
         let mut empties = empties_of(n, self.empty);
         part::change(&mut empties, self.changes);
         let empties = part::first(&empties, lengths.empties);
-        let mut lent = Lent::new(rt.alloc(), lengths)?;
+        let mut lent = Lent::new(lengths);
         print!(rt; "k {k}, rule {rule}, lent {}", lengths.table)?;
         print!(rt; " {} {} {}", lengths.list, lengths.bits, lengths.work)?;
         print!(rt; ", bytes{}", Bytes(empties))?;
-        plan(rt, k, &table, empties, &mut lent)
+        plan(rt, k, table, empties, &mut lent)
     }
 }
 
 // Plans, and writes the answer: the total, the list's length, and what is lent.
 fn plan(rt: &impl Print, k: u16, table: &[u32], empties: &[u8], lent: &mut Lent) -> io::Result<()> {
-    let list = &mut lent.list;
-    match filled::plan_filled(k, table, empties, list, &mut lent.bits, &mut lent.work) {
+    match lent.plan(k, table, empties) {
         Ok(ListPlanned { total, length }) => {
             println!(rt; ": 0, total {total}, length {length}{lent}")
         }
@@ -56,7 +56,7 @@ fn plan(rt: &impl Print, k: u16, table: &[u32], empties: &[u8], lent: &mut Lent)
 }
 
 // Plans for k, up to 6, with more than enough lent.
-pub fn planned<R: Print + AllocGlobal>(rt: &R, k: u16, rule: u32, empty: u64) -> io::Result<()> {
+pub fn planned<R: Print>(rt: &R, k: u16, rule: u32, empty: u64) -> io::Result<()> {
     let n = 1usize << k.min(6);
     let asked = Asked {
         k,

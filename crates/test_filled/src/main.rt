@@ -11,9 +11,10 @@ mod table;
 
 use call::planned;
 use std::io;
+use test_support::write::Unfailing;
 
 // Each tray of k in turn: bit i of its number, which is below `trays`, says that stop i is empty.
-fn every<R: Print + AllocGlobal>(rt: &R, k: u16, trays: u64, rule: u32) -> io::Result<()> {
+fn every<R: Print>(rt: &R, k: u16, trays: u64, rule: u32) -> io::Result<()> {
     for empty in 0..trays {
         planned(rt, k, rule, empty)?;
     }
@@ -35,7 +36,7 @@ const TRAYS: [(u16, u64); 10] = [
 ];
 
 // All of them by one rule: every tray of up to eight stops, and some of more.
-fn ruled<R: Print + AllocGlobal>(rt: &R, rule: u32) -> io::Result<()> {
+fn ruled<R: Print>(rt: &R, rule: u32) -> io::Result<()> {
     every(rt, 0, 2, rule)?;
     every(rt, 1, 4, rule)?;
     every(rt, 2, 16, rule)?;
@@ -47,9 +48,14 @@ fn ruled<R: Print + AllocGlobal>(rt: &R, rule: u32) -> io::Result<()> {
 }
 
 // All calls.
-fn main(rt: HostRuntime) -> io::Result<()> {
+fn run(rt: &impl Print) -> io::Result<()> {
     for rule in 0..4 {
-        ruled(&rt, rule)?;
+        ruled(rt, rule)?;
     }
-    refused::run(&rt)
+    refused::run(rt)
+}
+
+// By a handle that tells no failure.
+fn main() {
+    let _written = run(&Unfailing);
 }

@@ -55,7 +55,7 @@ const TWO_FAULTS: [Refused; 7] = [
 ];
 
 // Calls, one after another.
-fn calls<R: Print + AllocGlobal>(rt: &R, all: &[Refused]) -> io::Result<()> {
+fn calls<R: Print>(rt: &R, all: &[Refused]) -> io::Result<()> {
     for (k, table, empties, list, bits, work, changes) in all {
         let lengths = Lengths {
             table: *table,
@@ -77,7 +77,7 @@ fn calls<R: Print + AllocGlobal>(rt: &R, all: &[Refused]) -> io::Result<()> {
 }
 
 // All of them.
-pub fn run<R: Print + AllocGlobal>(rt: &R) -> io::Result<()> {
+pub fn run<R: Print>(rt: &R) -> io::Result<()> {
     calls(rt, &LENGTHS)?;
     calls(rt, &NO_LIST)?;
     calls(rt, &VALUES)?;

@@ -18,7 +18,7 @@ struct Calls;
 
 impl Cases for Calls {
     // A `match` on the letter stays: each arm is one call, and a table of functions would name the same letters beside them.
-    fn run<R: Print + AllocGlobal>(&mut self, rt: &R, letter: u8, line: &[u8]) -> io::Result<()> {
+    fn run<R: Print>(&mut self, rt: &R, letter: u8, line: &[u8]) -> io::Result<()> {
         match letter {
             b'e' => asked::every(rt, line),
             b'f' => asked::fork(rt, line),
@@ -29,6 +29,6 @@ impl Cases for Calls {
 }
 
 // Reads the cases and runs them: one call, with this program's own cases.
-fn main(rt: HostRuntime) -> io::Result<()> {
-    cases::run_all(&rt, &mut Calls)
+fn main() {
+    cases::run_all(&mut Calls)
 }

@@ -2,31 +2,25 @@
 
 use base::Refusal;
 use fork_cost::{ForkCost, fork_cost};
-use std::alloc::{AllocError, Global};
 use std::io;
 use test_support::{count, part};
 
-// Totals, pivots and orders.
+// So many totals, pivots and orders.
 #[derive(Drop)]
-pub struct Work {
-    totals: Vec<u64>,
-    pivots: Vec<u16>,
-    orders: Vec<u16>,
+pub struct Work<const TOTALS: usize, const PIVOTS: usize, const ORDERS: usize> {
+    totals: [u64; TOTALS],
+    pivots: [u16; PIVOTS],
+    orders: [u16; ORDERS],
 }
 
-impl Work {
-    // So many numbers of each kind, every one 77.
-    pub fn new(
-        alloc: Global,
-        totals: usize,
-        pivots: usize,
-        orders: usize,
-    ) -> Result<Work, AllocError> {
-        Ok(Work {
-            totals: vec![in alloc; 77; totals]?,
-            pivots: vec![in alloc; 77; pivots]?,
-            orders: vec![in alloc; 77; orders]?,
-        })
+impl<const TOTALS: usize, const PIVOTS: usize, const ORDERS: usize> Work<TOTALS, PIVOTS, ORDERS> {
+    // Numbers of each kind, every one 77.
+    pub fn new() -> Work<TOTALS, PIVOTS, ORDERS> {
+        Work {
+            totals: [77; TOTALS],
+            pivots: [77; PIVOTS],
+            orders: [77; ORDERS],
+        }
     }
 
     // What a fork of path bytes costs the other way, in all of the work space.

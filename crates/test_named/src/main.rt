@@ -7,10 +7,9 @@ mod session;
 mod setting;
 
 use session::Session;
-use std::io;
 use test_support::cases;
 
 // Reads the cases and runs them, in one session: one call, with this program's own.
-fn main(rt: HostRuntime) -> io::Result<()> {
-    cases::run_all(&rt, &mut Session::new())
+fn main() {
+    cases::run_all(&mut Session::new())
 }

@@ -20,7 +20,7 @@ pub struct Session {
 impl Cases for Session {
     // What is called, or what is set between the calls, and then every place. A `match` on the letter stays: each arm is one call, and a table of
     // functions would name the same letters beside them.
-    fn run<R: Print + AllocGlobal>(&mut self, rt: &R, letter: u8, line: &[u8]) -> io::Result<()> {
+    fn run<R: Print>(&mut self, rt: &R, letter: u8, line: &[u8]) -> io::Result<()> {
         match letter {
             b'k' => write::number(rt, self.keep(line))?,
             b'b' => write::number(rt, self.back(line))?,

@@ -5,18 +5,17 @@ use std::io;
 use test_support::write::{self, Bytes, Numbers};
 use test_support::{count, part, sum, text};
 
-// Writes the file of an order, to as many bytes of room, and then the answer: how many bytes, and every lent place.
-pub fn write_file<R: Print + AllocGlobal>(
+// Writes the file of an order, to these bytes, and then the answer: how many bytes, and every lent place.
+pub fn write_file<R: Print>(
     rt: &R,
     k: u16,
     order: &[u16],
     table: &[u32],
-    room: usize,
+    out: &mut [u8],
 ) -> io::Result<()> {
-    let mut out = vec![in rt.alloc(); 77u8; room]?;
-    match order_file::write_order_file(k, order, table, &mut out) {
-        Ok(count) => println!(rt; ": 0, bytes {count},{}", Bytes(&out)),
-        Err(refusal) => write::refusal(rt, refusal, count::all(&out, 77)),
+    match order_file::write_order_file(k, order, table, out) {
+        Ok(count) => println!(rt; ": 0, bytes {count},{}", Bytes(out)),
+        Err(refusal) => write::refusal(rt, refusal, count::all(out, 77)),
     }
 }
 
@@ -48,34 +47,35 @@ pub fn read_file(
     }
 }
 
-// `write TABLE K COUNT STOPS SIZE ROOM`: the file of so many stops, one hexadecimal digit each, by a table of at most 65 places.
-pub fn write<R: Print + AllocGlobal>(rt: &R, line: &[u8]) -> io::Result<()> {
+// `write TABLE K COUNT STOPS SIZE ROOM`: the file of so many stops, one hexadecimal digit each, by a table of at most 65 places, in at most 44 bytes.
+pub fn write<R: Print>(rt: &R, line: &[u8]) -> io::Result<()> {
     let count = text::size(line, 4);
     let order = known::stops(count, text::hex(line, 5));
     let table = known::table(text::letter(line, 2));
+    let mut out = [77u8; 44];
     write_file(
         rt,
         text::short(line, 3),
         part::first(&order, count),
         part::first(&table, text::size(line, 6)),
-        text::size(line, 7),
+        part::first_mut(&mut out, text::size(line, 7)),
     )
 }
 
-// `read FILE LENGTH CHANGES K SIZE PLACES ROOM`: the first so many bytes of the changed file, by its table of at most 65 places, into an order and
-// bits of these lengths.
-pub fn read<R: Print + AllocGlobal>(rt: &R, line: &[u8]) -> io::Result<()> {
+// `read FILE LENGTH CHANGES K SIZE PLACES ROOM`: the first so many bytes of the changed file, by its table of at most 65 places, into an order of at
+// most 5 places and at most 2 bytes of bits.
+pub fn read<R: Print>(rt: &R, line: &[u8]) -> io::Result<()> {
     let file = known::file(text::letter(line, 2), text::hex(line, 4));
     let table = known::table(text::letter(line, 2));
-    let mut order = vec![in rt.alloc(); 77u16; text::size(line, 7)]?;
-    let mut bits = vec![in rt.alloc(); 77u8; text::size(line, 8)]?;
+    let mut order = [77u16; 5];
+    let mut bits = [77u8; 2];
     read_file(
         rt,
         text::short(line, 5),
         part::first(&table, text::size(line, 6)),
         part::first(&file, text::size(line, 3)),
-        &mut order,
-        &mut bits,
+        part::first_mut(&mut order, text::size(line, 7)),
+        part::first_mut(&mut bits, text::size(line, 8)),
     )
 }
 

@@ -3,19 +3,26 @@
 use std::array;
 use test_support::{part, table};
 
-// The last `count` hexadecimal digits of a number as the first stops of an order.
-pub fn stops(count: usize, digits: u64) -> [u16; 17] {
-    let mut order = [0u16; 17];
-    let mut rest = digits;
-    for stop in part::first_mut(&mut order, count).iter_mut().rev() {
-        *stop = (rest % 16) as u16;
-        rest /= 16;
+// Hexadecimal digit i of a number, counted from the last one: 0 before its first.
+fn digit(number: u64, i: usize) -> u16 {
+    if i < 16 {
+        ((number >> (4 * i)) % 16) as u16
+    } else {
+        0
     }
-    order
+}
+
+// The last `count` hexadecimal digits of a number as the first stops of an order, as many as there are places for.
+pub fn stops(count: usize, digits: u64) -> [u16; 17] {
+    array::from_fn(|i| if i < count {
+        digit(digits, count - 1 - i)
+    } else {
+        0
+    })
 }
 
 // Entry i of the table of a word: `fifty`, that of the 50 example; `pair`, 3 from 0 to 1 and 7 from 1 to 0; `rule`, numbers near the largest.
-pub fn entry(word: u8, i: usize) -> u32 {
+fn entry(word: u8, i: usize) -> u32 {
     match (word, i) {
         (b'f', _) => table::fifty(i / 4, i % 4),
         (b'r', _) => u32::MAX - (i % 1048576 * 37 % 101) as u32,
@@ -28,6 +35,13 @@ pub fn entry(word: u8, i: usize) -> u32 {
 // A table of 65 places.
 pub fn table(word: u8) -> [u32; 65] {
     array::from_fn(|i| entry(word, i))
+}
+
+// Puts the table of `rule`, as long as there are places.
+pub fn fill(table: &mut [u32]) {
+    for (i, place) in table.iter_mut().enumerate() {
+        *place = entry(b'r', i);
+    }
 }
 
 // The file of the 50 example, whose records begin at 0, 6, 26 and 31. In each file the total lies at 10 and the stops at 18.

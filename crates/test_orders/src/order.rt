@@ -6,30 +6,18 @@ use std::io;
 use test_support::write::{self, Bytes};
 use test_support::{count, part, text};
 
-// Makes the fork bits of an order, in as many bytes, and writes the answer.
-pub fn make_bits<R: Print + AllocGlobal>(
-    rt: &R,
-    k: u16,
-    order: &[u16],
-    room: usize,
-) -> io::Result<()> {
-    let mut bits = vec![in rt.alloc(); 77u8; room]?;
-    match orders::fork_bits(k, order, &mut bits) {
-        Ok(()) => println!(rt; ": 0, bits{}", Bytes(&bits)),
-        Err(refusal) => write::refusal(rt, refusal, count::all(&bits, 77)),
+// Makes the fork bits of an order, in these bytes, and writes the answer.
+pub fn make_bits<R: Print>(rt: &R, k: u16, order: &[u16], bits: &mut [u8]) -> io::Result<()> {
+    match orders::fork_bits(k, order, bits) {
+        Ok(()) => println!(rt; ": 0, bits{}", Bytes(bits)),
+        Err(refusal) => write::refusal(rt, refusal, count::all(bits, 77)),
     }
 }
 
-// Makes the order of fork bits, in as many places, and writes the answer.
-pub fn make_order<R: Print + AllocGlobal>(
-    rt: &R,
-    k: u16,
-    bits: &[u8],
-    room: usize,
-) -> io::Result<()> {
-    let mut order = vec![in rt.alloc(); 77u16; room]?;
-    let made = orders::order_of_bits(k, bits, &mut order);
-    write::made(rt, "order", made, &order)
+// Makes the order of fork bits, in these places, and writes the answer.
+pub fn make_order<R: Print>(rt: &R, k: u16, bits: &[u8], order: &mut [u16]) -> io::Result<()> {
+    let made = orders::order_of_bits(k, bits, order);
+    write::made(rt, "order", made, order)
 }
 
 // Sums an order's total, and writes the answer.
@@ -40,26 +28,28 @@ pub fn sum_total(rt: &impl Print, k: u16, order: &[u16], table: &[u32]) -> io::R
     }
 }
 
-// `bits K COUNT STOPS ROOM`: the bits of so many stops, one hexadecimal digit each.
-pub fn bits<R: Print + AllocGlobal>(rt: &R, line: &[u8]) -> io::Result<()> {
+// `bits K COUNT STOPS ROOM`: the bits of so many stops, one hexadecimal digit each, in at most 3 bytes.
+pub fn bits<R: Print>(rt: &R, line: &[u8]) -> io::Result<()> {
     let count = text::size(line, 3);
     let order = known::stops(count, text::hex(line, 4));
+    let mut out = [77u8; 3];
     make_bits(
         rt,
         text::short(line, 2),
         part::first(&order, count),
-        text::size(line, 5),
+        part::first_mut(&mut out, text::size(line, 5)),
     )
 }
 
-// `order K COUNT BITS ROOM`: the order of the first so many of two bytes of bits.
-pub fn order<R: Print + AllocGlobal>(rt: &R, line: &[u8]) -> io::Result<()> {
+// `order K COUNT BITS ROOM`: the order of the first so many of two bytes of bits, in at most 17 places.
+pub fn order<R: Print>(rt: &R, line: &[u8]) -> io::Result<()> {
     let bits = ((text::hex(line, 4) % 65536) as u16).to_be_bytes();
+    let mut order = [77u16; 17];
     make_order(
         rt,
         text::short(line, 2),
         part::first(&bits, text::size(line, 3)),
-        text::size(line, 5),
+        part::first_mut(&mut order, text::size(line, 5)),
     )
 }
 

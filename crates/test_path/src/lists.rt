@@ -2,19 +2,19 @@
 
 use base::Refusal;
 use path::Heading;
-use std::alloc::{AllocError, Global};
 use std::fmt::{self, Display, Formatter};
 use stop::Stops;
 use test_support::write::Numbers;
 use test_support::{count, part, text};
 
-// Lists that a call is lent to write.
+// Lists that a call is lent to write: the first parts of these.
 #[derive(Drop)]
 pub struct Lent {
-    pub coords: Vec<i32>,
-    pub speeds: Vec<u16>,
-    pub blends: Vec<u16>,
-    pub dwells: Vec<u16>,
+    lengths: Lengths,
+    pub coords: [i32; 3073],
+    pub speeds: [u16; 1025],
+    pub blends: [u16; 1025],
+    pub dwells: [u16; 1025],
 }
 
 // As many places of each list as four words of a case say, the first of which is word `at`.
@@ -38,6 +38,16 @@ impl Lengths {
         }
     }
 
+    // The same, but none above that of `most`.
+    pub fn at_most(self, most: Lengths) -> Lengths {
+        Lengths {
+            coords: self.coords.min(most.coords),
+            speeds: self.speeds.min(most.speeds),
+            blends: self.blends.min(most.blends),
+            dwells: self.dwells.min(most.dwells),
+        }
+    }
+
     // The first parts of lists that a call reads.
     pub fn part<'a>(self, stops: Stops<'a>) -> Stops<'a> {
         Stops {
@@ -51,13 +61,14 @@ impl Lengths {
 
 impl Lent {
     // Lists of these lengths, in which every place holds 77.
-    pub fn new(alloc: Global, lengths: Lengths) -> Result<Lent, AllocError> {
-        Ok(Lent {
-            coords: vec![in alloc; 77; lengths.coords]?,
-            speeds: vec![in alloc; 77; lengths.speeds]?,
-            blends: vec![in alloc; 77; lengths.blends]?,
-            dwells: vec![in alloc; 77; lengths.dwells]?,
-        })
+    pub fn new(lengths: Lengths) -> Lent {
+        Lent {
+            lengths,
+            coords: [77; 3073],
+            speeds: [77; 1025],
+            blends: [77; 1025],
+            dwells: [77; 1025],
+        }
     }
 
     // Reads a path into them.
@@ -65,38 +76,40 @@ impl Lent {
         path::read_path(
             bytes,
             highest,
-            &mut self.coords,
-            &mut self.speeds,
-            &mut self.blends,
-            &mut self.dwells,
+            part::first_mut(&mut self.coords, self.lengths.coords),
+            part::first_mut(&mut self.speeds, self.lengths.speeds),
+            part::first_mut(&mut self.blends, self.lengths.blends),
+            part::first_mut(&mut self.dwells, self.lengths.dwells),
         )
     }
 
     // The same lists, as a call reads them.
     pub fn stops(&self) -> Stops<'_> {
-        Stops {
-            coords: self.coords.as_slice(),
-            speeds: self.speeds.as_slice(),
-            blends: self.blends.as_slice(),
-            dwells: self.dwells.as_slice(),
-        }
+        self.lengths.part(Stops {
+            coords: &self.coords,
+            speeds: &self.speeds,
+            blends: &self.blends,
+            dwells: &self.dwells,
+        })
     }
 
     // Whether every place still holds 77.
     pub fn untouched(&self) -> bool {
-        let places = count::all(&self.coords, 77);
-        let speeds = count::all(&self.speeds, 77);
-        let blends = count::all(&self.blends, 77);
-        places && speeds && blends && count::all(&self.dwells, 77)
+        let stops = self.stops();
+        let places = count::all(stops.coords, 77);
+        let speeds = count::all(stops.speeds, 77);
+        let blends = count::all(stops.blends, 77);
+        places && speeds && blends && count::all(stops.dwells, 77)
     }
 }
 
 // Every place of each list.
 impl Display for Lent {
     fn fmt<W: fmt::Write>(&self, f: &mut Formatter<W>) -> fmt::Result {
-        write!(f, ", coordinates{}", Numbers(&self.coords))?;
-        write!(f, ", speeds{}", Numbers(&self.speeds))?;
-        write!(f, ", blends{}", Numbers(&self.blends))?;
-        write!(f, ", dwells{}", Numbers(&self.dwells))
+        let stops = self.stops();
+        write!(f, ", coordinates{}", Numbers(stops.coords))?;
+        write!(f, ", speeds{}", Numbers(stops.speeds))?;
+        write!(f, ", blends{}", Numbers(stops.blends))?;
+        write!(f, ", dwells{}", Numbers(stops.dwells))
     }
 }

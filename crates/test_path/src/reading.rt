@@ -14,10 +14,18 @@ pub fn read_into(rt: &impl Print, bytes: &[u8], highest: u16, mut lent: Lent) ->
     }
 }
 
-// `read PATH LENGTH CHANGES HIGHEST COORDINATES SPEEDS BLENDS DWELLS`
-pub fn read<R: Print + AllocGlobal>(rt: &R, line: &[u8]) -> io::Result<()> {
+// The most places of each list.
+const MOST: Lengths = Lengths {
+    coords: 7,
+    speeds: 3,
+    blends: 3,
+    dwells: 3,
+};
+
+// `read PATH LENGTH CHANGES HIGHEST COORDINATES SPEEDS BLENDS DWELLS`: the lent lengths are at most 7, 3, 3 and 3.
+pub fn read<R: Print>(rt: &R, line: &[u8]) -> io::Result<()> {
     let bytes = sample::path(line);
     let path = part::first(&bytes, text::size(line, 3));
-    let lent = Lent::new(rt.alloc(), Lengths::given(line, 6))?;
+    let lent = Lent::new(Lengths::given(line, 6).at_most(MOST));
     read_into(rt, path, text::short(line, 5), lent)
 }

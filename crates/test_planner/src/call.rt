@@ -4,7 +4,6 @@ use crate::lent::{Lengths, Lent};
 use crate::table::Rule;
 use base::Refusal;
 use planner::Planned;
-use std::alloc::{AllocError, Global};
 use std::fmt::{self, Display, Formatter};
 use std::io;
 use test_support::table;
@@ -65,31 +64,24 @@ impl Found {
 impl Asked {
     // The call with these tables and buffers.
     pub fn answer(self, table: &[u32], places: &[u32], lent: &mut Lent) -> Result<Found, Refusal> {
-        let order = &mut lent.order;
-        let totals = &mut lent.totals;
-        let pivots = &mut lent.pivots;
         match self.call {
-            Call::Plan => planner::plan(self.k, table, order, totals, pivots).map(Found::planned),
-            Call::Tour => planner::tour(self.k, table, order, totals, pivots).map(Found::total),
-            Call::Places(_) => {
-                planner::plan_places(self.k, table, places, order, totals, pivots).map(Found::total)
-            }
+            Call::Plan => lent.plan(self.k, table).map(Found::planned),
+            Call::Tour => lent.tour(self.k, table).map(Found::total),
+            Call::Places(_) => lent.plan_places(self.k, table, places).map(Found::total),
         }
     }
 
-    // The call with tables by its rules, and the buffers in `lent`.
-    pub fn by_rules(
-        self,
-        alloc: Global,
-        lengths: Lengths,
-        lent: &mut Lent,
-    ) -> Result<Result<Found, Refusal>, AllocError> {
-        let table = table::make(alloc, lengths.rows, lengths.table, Rule(self.rule))?;
-        let places = match self.call {
-            Call::Places(extra) => table::make(alloc, lengths.rows, lengths.places, Rule(extra))?,
-            _ => Vec::new(alloc),
+    // The call with tables by its rules, of at most 256 numbers, and the buffers in `lent`; only `Places` has a second one.
+    pub fn by_rules(self, lengths: Lengths, lent: &mut Lent) -> Result<Found, Refusal> {
+        let mut table = [0u32; 256];
+        let mut places = [0u32; 256];
+        let table = table::make(&mut table, lengths.rows, lengths.table, Rule(self.rule));
+        let (extra, size) = match self.call {
+            Call::Places(extra) => (extra, lengths.places),
+            _ => (0, 0),
         };
-        Ok(self.answer(&table, &places, lent))
+        let places = table::make(&mut places, lengths.rows, size, Rule(extra));
+        self.answer(table, places, lent)
     }
 
     // The beginning of a line: the call, k, the tables' rules, and the lengths of the tables.
@@ -107,13 +99,13 @@ impl Asked {
     }
 
     // One call, and its line.
-    pub fn example<R: Print + AllocGlobal>(self, rt: &R, lengths: Lengths) -> io::Result<()> {
-        let mut lent = Lent::new(rt.alloc(), lengths)?;
-        let found = self.by_rules(rt.alloc(), lengths, &mut lent)?;
+    pub fn example<R: Print>(self, rt: &R, lengths: Lengths) -> io::Result<()> {
+        let mut lent = Lent::new(lengths);
+        let found = self.by_rules(lengths, &mut lent);
         self.title(rt, lengths)?;
         print!(rt; " {} {} {}", lengths.order, lengths.totals, lengths.pivots)?;
         write_found(rt, found)?;
-        print!(rt; ", order{}", Numbers(&lent.order))?;
+        print!(rt; ", order{}", Numbers(lent.order()))?;
         lent.work(rt)
     }
 }
@@ -133,7 +125,7 @@ pub fn write_found(rt: &impl Print, found: Result<Found, Refusal>) -> io::Result
 }
 
 // Calls with more than enough lent: k and the rule of each.
-pub fn ruled<R: Print + AllocGlobal>(rt: &R, call: Call, cases: &[(u16, u32)]) -> io::Result<()> {
+pub fn ruled<R: Print>(rt: &R, call: Call, cases: &[(u16, u32)]) -> io::Result<()> {
     for (k, rule) in cases {
         let asked = Asked {
             call,
@@ -149,12 +141,7 @@ pub fn ruled<R: Print + AllocGlobal>(rt: &R, call: Call, cases: &[(u16, u32)]) -
 pub type Sizes = (u16, usize, usize, usize, usize, usize);
 
 // Calls by tables of four rows of a rule, with so much lent.
-pub fn sized<R: Print + AllocGlobal>(
-    rt: &R,
-    call: Call,
-    rule: u32,
-    cases: &[Sizes],
-) -> io::Result<()> {
+pub fn sized<R: Print>(rt: &R, call: Call, rule: u32, cases: &[Sizes]) -> io::Result<()> {
     for (k, table, places, order, totals, pivots) in cases {
         let lengths = Lengths {
             rows: 4,

@@ -5,7 +5,6 @@ ghost use Rattle.std.specs.Prelude.{◌<◌};
 use crate::call::{Asked, Call, write_found};
 use crate::lent::{Lengths, Lent};
 use crate::table::Rule;
-use std::alloc::{AllocError, Global};
 use std::io;
 use test_support::{part, table};
 
@@ -36,13 +35,13 @@ fn stop_in(p: usize) -> usize
     v % 1024
 }
 
-// A table of moves that take 5, but those of the planted order, which take `time`.
-fn planted(alloc: Global, time: u32) -> Result<Vec<u32>, AllocError> {
-    let mut table = table::make(alloc, 1024, 1048576, Rule(8))?;
+// A table of moves that take 5, but those of the planted order, which take `time`, in the first of these places.
+fn planted(places: &mut [u32], time: u32) -> &mut [u32] {
+    let table = table::make(places, 1024, 1048576, Rule(8));
     for p in 1..1024 {
-        part::put(&mut table, stop_in(p - 1) * 1024 + stop_in(p), time);
+        part::put(table, stop_in(p - 1) * 1024 + stop_in(p), time);
     }
-    Ok(table)
+    table
 }
 
 // What place p of the lent order is to hold: the planted order or 1023, .. 1, 0, and 77 past it.
@@ -54,7 +53,7 @@ fn expected(p: usize, planted: bool) -> usize {
 }
 
 // Plans by a table for k = 10 with a planted order: where its moves take less than 5, it alone is best, and where they take 5 all orders are.
-pub fn at_ten<R: Print + AllocGlobal>(rt: &R, time: u32) -> io::Result<()> {
+pub fn at_ten<R: Print>(rt: &R, time: u32) -> io::Result<()> {
     let asked = Asked {
         call: Call::Plan,
         k: 10,
@@ -68,12 +67,13 @@ pub fn at_ten<R: Print + AllocGlobal>(rt: &R, time: u32) -> io::Result<()> {
         totals: 2049,
         pivots: 2050,
     };
-    let mut lent = Lent::new(rt.alloc(), lengths)?;
-    let table = planted(rt.alloc(), time)?;
+    let mut lent = Lent::new(lengths);
+    let mut places = [0u32; 1048576];
+    let table = planted(&mut places, time);
     print!(rt; "k 10, rule 8")?;
-    write_found(rt, asked.answer(&table, &[], &mut lent))?;
+    write_found(rt, asked.answer(table, &[], &mut lent))?;
     let as_expected = lent
-        .order
+        .order()
         .iter()
         .enumerate()
         .all(|(p, stop)| usize::from(*stop) == expected(p, time < 5));

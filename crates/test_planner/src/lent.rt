@@ -1,8 +1,9 @@
 // What a call of the planner is lent.
 
-use std::alloc::{AllocError, Global};
+use base::Refusal;
+use planner::Planned;
 use std::io;
-use test_support::count;
+use test_support::{count, part};
 
 // The rows of the tables, and the length of each table and each buffer; only a call where places cost extra has a second table.
 #[derive(Clone, Copy)]
@@ -36,31 +37,80 @@ impl Lengths {
     }
 }
 
-// An order, and work space.
+// An order, and work space: the first parts of these buffers.
 #[derive(Drop)]
 pub struct Lent {
-    pub order: Vec<u16>,
-    pub totals: Vec<u64>,
-    pub pivots: Vec<u16>,
+    lengths: Lengths,
+    order: [u16; 1025],
+    totals: [u64; 2049],
+    pivots: [u16; 2050],
 }
 
 impl Lent {
     // Buffers of these lengths, in which every place holds 77. Other programs lend other buffers: one generic struct would lose their names.
-    pub fn new(alloc: Global, lengths: Lengths) -> Result<Lent, AllocError> {
-        Ok(Lent {
-            order: vec![in alloc; 77; lengths.order]?,
-            totals: vec![in alloc; 77; lengths.totals]?,
-            pivots: vec![in alloc; 77; lengths.pivots]?,
-        })
+    pub fn new(lengths: Lengths) -> Lent {
+        Lent {
+            lengths,
+            order: [77; 1025],
+            totals: [77; 2049],
+            pivots: [77; 2050],
+        }
+    }
+
+    // The plan by a table.
+    pub fn plan(&mut self, k: u16, table: &[u32]) -> Result<Planned, Refusal> {
+        planner::plan(
+            k,
+            table,
+            part::first_mut(&mut self.order, self.lengths.order),
+            part::first_mut(&mut self.totals, self.lengths.totals),
+            part::first_mut(&mut self.pivots, self.lengths.pivots),
+        )
+    }
+
+    // The round trip by a table.
+    pub fn tour(&mut self, k: u16, table: &[u32]) -> Result<u64, Refusal> {
+        planner::tour(
+            k,
+            table,
+            part::first_mut(&mut self.order, self.lengths.order),
+            part::first_mut(&mut self.totals, self.lengths.totals),
+            part::first_mut(&mut self.pivots, self.lengths.pivots),
+        )
+    }
+
+    // The plan by a table where places cost extra by another.
+    pub fn plan_places(&mut self, k: u16, table: &[u32], places: &[u32]) -> Result<u64, Refusal> {
+        planner::plan_places(
+            k,
+            table,
+            places,
+            part::first_mut(&mut self.order, self.lengths.order),
+            part::first_mut(&mut self.totals, self.lengths.totals),
+            part::first_mut(&mut self.pivots, self.lengths.pivots),
+        )
+    }
+
+    // What is lent of the order.
+    pub fn order(&self) -> &[u16] {
+        part::first(&self.order, self.lengths.order)
+    }
+
+    // How often what is lent of the totals and of the pivots holds a number.
+    fn counts(&self, number: u16) -> [usize; 2] {
+        let totals = part::first(&self.totals, self.lengths.totals);
+        let pivots = part::first(&self.pivots, self.lengths.pivots);
+        [
+            count::of(totals, u64::from(number)),
+            count::of(pivots, number),
+        ]
     }
 
     // Ends a line with the 0s and 77s of the work space.
     pub fn work(&self, rt: &impl Print) -> io::Result<()> {
-        let totals = count::of(&self.totals, 0);
-        let pivots = count::of(&self.pivots, 0);
+        let [totals, pivots] = self.counts(0);
         print!(rt; ", 0 in {totals} {pivots}")?;
-        let totals = count::of(&self.totals, 77);
-        let pivots = count::of(&self.pivots, 77);
+        let [totals, pivots] = self.counts(77);
         println!(rt; ", 77 in {totals} {pivots}")
     }
 }

@@ -65,7 +65,7 @@ const REFUSED: [Sizes; 15] = [
 ];
 
 // The plans by rules.
-fn ruled<R: Print + AllocGlobal>(rt: &R, cases: &[(u16, u32, u32)]) -> io::Result<()> {
+fn ruled<R: Print>(rt: &R, cases: &[(u16, u32, u32)]) -> io::Result<()> {
     for (k, rule, extra) in cases {
         let asked = Asked {
             call: Call::Places(*extra),
@@ -78,7 +78,7 @@ fn ruled<R: Print + AllocGlobal>(rt: &R, cases: &[(u16, u32, u32)]) -> io::Resul
 }
 
 // All calls.
-pub fn run<R: Print + AllocGlobal>(rt: &R) -> io::Result<()> {
+pub fn run<R: Print>(rt: &R) -> io::Result<()> {
     ruled(rt, &SAME)?;
     ruled(rt, &CHANGED)?;
     ruled(rt, &RULED)?;

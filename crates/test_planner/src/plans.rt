@@ -49,7 +49,7 @@ const REFUSED: [Sizes; 9] = [
 ];
 
 // All calls.
-pub fn run<R: Print + AllocGlobal>(rt: &R) -> io::Result<()> {
+pub fn run<R: Print>(rt: &R) -> io::Result<()> {
     for k in 0..12 {
         foretell(rt, k)?;
     }

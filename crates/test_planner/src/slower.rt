@@ -3,7 +3,6 @@
 
 use crate::call::{Asked, Call};
 use crate::lent::{Lengths, Lent};
-use std::alloc::{AllocError, Global};
 use std::io;
 use test_support::part;
 use test_support::write::Numbers;
@@ -46,9 +45,9 @@ fn asked(k: u16, ruled: Ruled) -> Asked {
 }
 
 // The total that a call answers, in these buffers; nothing is refused here.
-fn total(alloc: Global, asked: Asked, lent: &mut Lent) -> Result<u64, AllocError> {
-    let found = asked.by_rules(alloc, Lengths::enough(asked.k), lent)?;
-    Ok(found.map_or(0, |found| found.total))
+fn total(asked: Asked, lent: &mut Lent) -> u64 {
+    let found = asked.by_rules(Lengths::enough(asked.k), lent);
+    found.map_or(0, |found| found.total)
 }
 
 // The rules of the tables, of which only `Places` has two.
@@ -60,29 +59,25 @@ fn write_rules(rt: &impl Print, asked: Asked) -> io::Result<()> {
 }
 
 // One call, then the same by other tables, and the line.
-fn line<R: Print + AllocGlobal>(rt: &R, asked: Asked, then: Asked) -> io::Result<()> {
+fn line<R: Print>(rt: &R, asked: Asked, then: Asked) -> io::Result<()> {
     let Asked { call, k, .. } = asked;
     let lengths = Lengths::enough(k);
-    let mut lent = Lent::new(rt.alloc(), lengths)?;
-    let mut lent_then = Lent::new(rt.alloc(), lengths)?;
-    let total_first = total(rt.alloc(), asked, &mut lent)?;
-    let total_then = total(rt.alloc(), then, &mut lent_then)?;
+    let mut lent = Lent::new(lengths);
+    let mut lent_then = Lent::new(lengths);
+    let total_first = total(asked, &mut lent);
+    let total_then = total(then, &mut lent_then);
     print!(rt; " {call} k {k}, rules")?;
     write_rules(rt, asked)?;
     print!(rt; " then")?;
     write_rules(rt, then)?;
     print!(rt; ": total {total_first} then {total_then}")?;
-    let order = part::first(&lent.order, lengths.rows);
-    let order_then = part::first(&lent_then.order, lengths.rows);
+    let order = part::first(lent.order(), lengths.rows);
+    let order_then = part::first(lent_then.order(), lengths.rows);
     println!(rt; ", order{} then{}", Numbers(order), Numbers(order_then))
 }
 
 // The lines whose first word this is.
-fn lines<R: Print + AllocGlobal>(
-    rt: &R,
-    word: &str,
-    cases: &[(u16, Ruled, Ruled)],
-) -> io::Result<()> {
+fn lines<R: Print>(rt: &R, word: &str, cases: &[(u16, Ruled, Ruled)]) -> io::Result<()> {
     for (k, ruled, later) in cases {
         print!(rt; "{word}")?;
         line(rt, asked(*k, *ruled), asked(*k, *later))?;
@@ -91,7 +86,7 @@ fn lines<R: Print + AllocGlobal>(
 }
 
 // The heading, and all calls.
-pub fn run<R: Print + AllocGlobal>(rt: &R) -> io::Result<()> {
+pub fn run<R: Print>(rt: &R) -> io::Result<()> {
     print!(rt; "With 100 a rule has 7 more off the diagonal, with 200 7 more everywhere, ")?;
     println!(rt; "with 300 5 more where the column is not larger than the row.")?;
     lines(rt, "slower", &SLOWER)?;

@@ -52,7 +52,7 @@ const REFUSED: [Sizes; 13] = [
 ];
 
 // All calls.
-pub fn run<R: Print + AllocGlobal>(rt: &R) -> io::Result<()> {
+pub fn run<R: Print>(rt: &R) -> io::Result<()> {
     call::ruled(rt, Call::Tour, &SMALL)?;
     call::ruled(rt, Call::Tour, &CLOSED)?;
     call::ruled(rt, Call::Tour, &RULED)?;

@@ -17,7 +17,7 @@ pub struct Session {
 
 impl Cases for Session {
     // A `match` on the letter stays: each arm is one call, and a table of functions would name the same letters beside them.
-    fn run<R: Print + AllocGlobal>(&mut self, rt: &R, letter: u8, line: &[u8]) -> io::Result<()> {
+    fn run<R: Print>(&mut self, rt: &R, letter: u8, line: &[u8]) -> io::Result<()> {
         match letter {
             b'p' => self.begin(line),
             b'o' => self.put_order(line),
@@ -49,9 +49,9 @@ impl Session {
         self.sums = [77; 9];
     }
 
-    // `order COUNT STOPS..`: the order's first places.
+    // `order COUNT STOPS..`: the order's first places, COUNT modulo 10 of them.
     fn put_order(&mut self, line: &[u8]) {
-        let count = text::size(line, 2);
+        let count = text::size(line, 2) % 10;
         for (i, stop) in part::first_mut(&mut self.order, count)
             .iter_mut()
             .enumerate()

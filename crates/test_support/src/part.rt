@@ -4,7 +4,7 @@ ghost use Rattle.std.specs.List.{flat_map};
 ghost use Rattle.test_support.specs.Bytes.{two_bytes};
 ghost use Rattle.test_support.specs.Change.{changed_once, changed};
 
-use std::alloc::AllocError;
+use arrayvec::{ArrayVec, CapacityError};
 
 // The first `count` elements, or all where there are fewer.
 pub fn first<T>(all: &[T], count: usize) -> &[T]
@@ -39,11 +39,14 @@ pub fn copy<T: Copy>(list: &mut [T], source: &[T])
 }
 
 // Adds numbers of 16 bits, the low byte of each first.
-pub fn push(bytes: &mut Vec<u8>, numbers: &[u16]) -> Result<(), AllocError>
+pub fn push<const N: usize>(
+    bytes: &mut ArrayVec<u8, N>,
+    numbers: &[u16],
+) -> Result<(), CapacityError>
     ensures { OnOk result (bytes.new.items ≡ bytes.old.items ++ flat_map two_bytes numbers.now) }
 {
     for number in numbers {
-        bytes.extend_from_slice(&number.to_le_bytes())?;
+        bytes.try_extend_from_slice(&number.to_le_bytes())?;
     }
     Ok(())
 }

@@ -1,8 +1,8 @@
 // Tables of travel times.
-ghost use Rattle.std.specs.Prelude.{◌≡◌, IfOk, length};
+ghost use Rattle.std.specs.Prelude.{◌≡◌, length, min};
 ghost use Rattle.test_support.specs.Fifty.{fifty_x, fifty_time};
 
-use std::alloc::{AllocError, Global};
+use crate::part;
 
 // A rule that gives each entry of a table: a program's own, of which no contract is asked.
 pub trait Rule: Copy {
@@ -10,19 +10,17 @@ pub trait Rule: Copy {
     fn entry(self, a: u32, b: u32) -> u32;
 }
 
-// The table of so many rows, at least one, by a rule, of this size. A rule is asked for stops below 1,024: a larger number is taken from 0 on again.
-pub fn make(
-    alloc: Global,
-    rows: usize,
-    size: usize,
-    rule: impl Rule,
-) -> Result<Vec<u32>, AllocError>
-    ensures { IfOk result (λ table. length table.items ≡ size) }
+// The table of so many rows, at least one, by a rule, of this size, or as long as there are places, in the first of them. A rule is asked for stops below
+// 1,024: a larger number is taken from 0 on again.
+pub fn make(places: &mut [u32], rows: usize, size: usize, rule: impl Rule) -> &mut [u32]
+    ensures { length result.now ≡ min size (length places.old) }
 {
     let rows = rows.max(1);
-    (0..size)
-        .map(|i| rule.entry((i / rows % 1024) as u32, (i % rows % 1024) as u32))
-        .collect(alloc)
+    let table = part::first_mut(places, size);
+    for (i, entry) in table.iter_mut().enumerate() {
+        *entry = rule.entry((i / rows % 1024) as u32, (i % rows % 1024) as u32);
+    }
+    table
 }
 
 // The x of a stop of the example with the total 50; a stop past the last counts as the last.

@@ -22,17 +22,23 @@ held-held-requires c =
     let e = c.stop_count-n.ensures in
     (fit-few f.fit e, omega (arith, f.inside, fit-count f.fit e))
 
-pub invariant_of-costs : goal.invariant_of-costs
-invariant_of-costs c = let f = held-ok 0 (c.in_ok-judge_held.ensures 0) in record { small = fit-few f.fit c.stop_count-n.ensures }
+pub unwrap-costs-requires : goal.unwrap-costs-requires
+unwrap-costs-requires c = let f = held-ok 0 (c.in_ok-judge_held.ensures 0) in c.new.ensures.fits.1 (fit-few f.fit c.stop_count-n.ensures)
 
-pub run-requires : goal.run-requires
-run-requires c =
+pub run-requires-clause-room_for : goal.run-requires-clause-room_for
+run-requires-clause-room_for c =
+    let f = held-ok 0 (c.in_ok-judge_held.ensures 0) in
+    let m = rw c.unwrap-costs.ensures at c.new.ensures.holds in
+    rw m.0 (fit-room f.fit c.stop_count-n.ensures)
+
+pub run-requires-clause-has_plan : goal.run-requires-clause-has_plan
+run-requires-clause-has_plan c =
     let a = c.args in
     let f = held-ok 0 (c.in_ok-judge_held.ensures 0) in
-    let e = c.stop_count-n.ensures in
-    let count = fit-count f.fit e in
+    let count = fit-count f.fit c.stop_count-n.ensures in
     let holds = subst (λ n. HoldsFork n a.fork a.exchanged c.held-held.result) count c.held-held.ensures in
-    record { room_for = fit-room f.fit e; has_plan = has-plan (path-plan a.path.k a.path.version a.path.bytes.now a.fork a.exchanged c.held-held.result f.inside holds count) }
+    let m = rw c.unwrap-costs.ensures at c.new.ensures.holds in
+    rw (m.0, m.1, m.2, m.3) (has-plan (path-plan a.path.k a.path.version a.path.bytes.now a.fork a.exchanged c.held-held.result f.inside holds count))
 
 pub returns : goal.returns
 returns c =
@@ -40,4 +46,5 @@ returns c =
     let f = held-ok 0 (c.in_ok-judge_held.ensures 0) in
     let count = fit-count f.fit c.stop_count-n.ensures in
     let holds = subst (λ n. HoldsFork n a.fork a.exchanged c.held-held.result) count c.held-held.ensures in
-    path-left a.path.k a.path.version a.path.bytes.now a.fork a.exchanged c.held-held.result f.inside holds f.body.range c.run.result count (held_gives _ _ _ _ _ _ _ f (state_of a.exchanged)) c.run.ensures
+    let m = rw c.unwrap-costs.ensures at c.new.ensures.holds in
+    path-left a.path.k a.path.version a.path.bytes.now a.fork a.exchanged c.held-held.result f.inside holds f.body.range c.run.result count (held_gives _ _ _ _ _ _ _ f (state_of a.exchanged)) (rw (m.0, m.1, m.2, m.3) at c.run.ensures)

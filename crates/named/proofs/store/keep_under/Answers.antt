@@ -9,6 +9,6 @@ pub returns : goal.returns
 returns c =
     let p = place_of _ _ _ c.requires.0 c.requires.1 c.requires.2 c.stop_count-n.ensures in (
       refl,
-      written-at _ _ _ _ _ _ _ c.copy_from_slice.ensures.after (omega (arith, p.count, c.requires.3)) p.start p.count,
-      written-at _ _ _ _ _ _ _ c.copy_from_slice-2.ensures.after (omega (arith, p.count, c.requires.4)) p.start p.count,
+      written-at _ _ _ _ _ _ _ c.copy_over.ensures (omega (arith, p.count, c.requires.3)) p.start p.count,
+      written-at _ _ _ _ _ _ _ c.copy_over-2.ensures (omega (arith, p.count, c.requires.4)) p.start p.count,
     )

@@ -1,11 +1,10 @@
 -- `orders::forks::write_bits` meets its contract: after the places passed, `Marks` says which bits are set.
 use mathlib.Core.Path.{◌≡◌, sym, ap, subst, ◌∙◌}
-use mathlib.Core.List.{List, [], ◌∷◌, ◌++◌}
+use mathlib.Core.List.{List, ◌++◌}
 use Prim.Native.Nat.{ℕ, ◌+◌, ◌^◌, ◌<◌, ◌≤◌}
 use native.Mathlib.Omega.{arith}
 use lib.ListN.{length, get_or, take, drop, replicate, length-replicate, length-append, length-drop}
 use lib.Seq.{get_or-take, length-take-le, drop_at}
-use Rattle.std.proofs.lemmas.List.{length_push}
 use Rattle.base.specs.Size.{stop_count}
 use Rattle.base.proofs.Outcome.{over-at}
 use Rattle.base.proofs.Size.{stop_count-pow}
@@ -15,7 +14,6 @@ use Rattle.orders.specs.Allowed.{forks_of}
 use Rattle.orders.specs.Lent.{order_in, JudgedOrder}
 use Rattle.orders.specs.Bits.{byte_count, marked, bit_string}
 use Rattle.orders.proofs.Allowed.{below_each, forks_of-gives, Gives}
-use Rattle.orders.proofs.Places.{place-turn, place-end}
 use Rattle.orders.proofs.Marks.{Marks, marks-none, marks-more, marks-all}
 use Rattle.orders.proofs.Size.{byte_count-is}
 use Rattle.orders.proofs.forks.write_bits.Goals as goal
@@ -51,26 +49,21 @@ loop-p-init c =
 pub mark_fork-requires : goal.mark_fork-requires
 mark_fork-requires c =
     let l = c.loop-p in
-    let t = place-turn c.stop_count-n.result c.args.order.now c.loop-p.yielded c.loop-p.p-iterator c.next.new.self _ c.into_iter-p-iterator.ensures.into_iter_gives c.zip-p-items.ensures.first c.zip-p-items.ensures.second c.iter.ensures.rest c.loop-p.yielded_by c.next.ensures.steps c.in-Some.is in
-    let b : c.in-Some.p < 2 ^ c.args.k = omega (arith, t.1, c.stop_count-n.ensures, stop_count-pow c.args.k c.requires.0.small) in
-    (c.requires.0.small, t.0, b, omega (arith, c.from.ensures, t.4, stop-lt c.args.k c.in-Some.p c.args.order.now c.requires.0 b), l.invariant.0)
+    let b : l.p < 2 ^ c.args.k = omega (arith, c.loop-p-test.true, c.stop_count-n.ensures, stop_count-pow c.args.k c.requires.0.small) in
+    (c.requires.0.small, l.auto.p, b, omega (arith, c.from.ensures, stop-lt c.args.k l.p c.args.order.now c.requires.0 b), l.invariant.0)
 
 pub loop-p-preserved : goal.loop-p-preserved
 loop-p-preserved c =
     let l = c.loop-p in let k : ℕ = c.args.k in
-    let p : ℕ = c.in-Some.p in
+    let p : ℕ = l.p in
     let order : List ℕ = c.args.order.now in
     let o : List ℕ = order_in k order in
-    let t = place-turn c.stop_count-n.result c.args.order.now c.loop-p.yielded c.loop-p.p-iterator c.next.new.self _ c.into_iter-p-iterator.ensures.into_iter_gives c.zip-p-items.ensures.first c.zip-p-items.ensures.second c.iter.ensures.rest c.loop-p.yielded_by c.next.ensures.steps c.in-Some.is in
-    let b : p < 2 ^ k = omega (arith, t.1, c.stop_count-n.ensures, stop_count-pow k c.requires.0.small) in
-    let here : in_place o p ≡ c.from.result = get_or-take (2 ^ k) order p 0 b ∙ sym (c.from.ensures ∙ t.4) in
+    let b : p < 2 ^ k = omega (arith, c.loop-p-test.true, c.stop_count-n.ensures, stop_count-pow k c.requires.0.small) in
+    let here : in_place o p ≡ c.from.result = get_or-take (2 ^ k) order p 0 b ∙ sym c.from.ensures in
     let z : marked k p (in_place o p) l.bits ≡ c.mark_fork.new.bits = ap (λ (x : ℕ). marked k p x l.bits) here ∙ sym c.mark_fork.ensures in
-    let before : List ℕ = c.fill.new.self ++ drop c.byte_count.result c.args.bits.now in
-    let now : Marks k o (forks_of k o) before l.bits p = subst (Marks k o (forks_of k o) before l.bits) (sym t.3) l.invariant.1 in
-    let next : p + 1 ≡ length (l.yielded ++ (c.in-Some.p, c.in-Some.stop) ∷ []) + 1 = omega (arith, t.3, length_push l.yielded (c.in-Some.p, c.in-Some.stop)) in (
+    let before : List ℕ = c.fill.new.self ++ drop c.byte_count.result c.args.bits.now in (
       omega (arith, c.mark_fork.auto.bits, l.invariant.0),
-      subst (Marks k o (forks_of k o) before c.mark_fork.new.bits) next
-          (subst (λ (x : List ℕ). Marks k o (forks_of k o) before x (p + 1)) z (marks-more k o (forks_of k o) (gives k order c.requires.0) before l.bits p t.0 b l.invariant.0 now)),
+      subst (λ (x : List ℕ). Marks k o (forks_of k o) before x (p + 1)) z (marks-more k o (forks_of k o) (gives k order c.requires.0) before l.bits p l.auto.p b l.invariant.0 l.invariant.1),
     )
 
 pub returns : goal.returns
@@ -81,8 +74,7 @@ returns c =
     let o : List ℕ = order_in k c.args.order.now in
     let z = cleared k c.byte_count.result b c.fill.new.self c.requires.0.small c.byte_count.ensures c.requires.1 (c.fill.ensures.after (λ y e. e)) in
     let before : List ℕ = c.fill.new.self ++ drop c.byte_count.result b in
-    let all = place-end c.stop_count-n.result c.args.order.now c.loop-p.yielded c.loop-p.p-iterator c.next.new.self _ c.into_iter-p-iterator.ensures.into_iter_gives c.zip-p-items.ensures.first c.zip-p-items.ensures.second c.iter.ensures.rest c.loop-p.yielded_by c.next.ensures.steps c.in-None.is in
-    let end : 2 ^ k ≤ length l.yielded + 1 = omega (arith, all, c.requires.0.long, c.stop_count-n.ensures, stop_count-pow k c.requires.0.small) in
-    marks-all k o (forks_of k o) (gives k c.args.order.now c.requires.0) before l.bits (length l.yielded + 1) end l.invariant.0 l.invariant.1
+    let end : 2 ^ k ≤ l.p = omega (arith, c.loop-p-test.false, c.stop_count-n.ensures, stop_count-pow k c.requires.0.small) in
+    marks-all k o (forks_of k o) (gives k c.args.order.now c.requires.0) before l.bits l.p end l.invariant.0 l.invariant.1
     ∙ ap (λ (x : List ℕ). bit_string k (forks_of k o) ++ x) (ap (drop m) z ∙ drop_at (replicate m 0) (drop m b) m (length-replicate {A = ℕ} m 0))
     ∙ sym (over-at m (bit_string k (forks_of k o)) b (length-bytes_of m (forks_of k o)))

@@ -54,7 +54,7 @@ returns g c =
     let q = c.requires in
     let e = c.stops-n.ensures in
     let left : let a = c.args in PassLeft (g.C.Costs.costing a.costs) 0 0 0 a.k a.totals.now a.pivots.now c.pass-weighings.new.totals c.pass-weighings.new.pivots c.pass-weighings.result =
-    c.pass-weighings.ensures.made (pass-whole q.lent_sizes q.k_nonzero.0 q.k_nonzero.1) in
+    c.pass-weighings.ensures.made.made (pass-whole q.lent_sizes q.k_nonzero.0 q.k_nonzero.1) in
     rw (← e) (
       ends-fixed _ _ _ _ _ _ _ (sym e) (e ∙ q.k_nonzero.1) q.k_nonzero.0 c.pow.ensures stops.1 stops.0 (chosen g held) (rw (← e) at q.k_nonzero.2) (subst (λ x. RowHolds (all_walks (g.C.Costs.costing c.args.costs)) (2 ^ (c.args.k - 1) - 1) (2 ^ c.args.k - 1) x 0 (2 ^ c.args.k) c.pass-weighings.new.totals c.pass-weighings.new.pivots) (sym e) left.row) c.least-held.ensures c.fix_middle.ensures,
       left.counted,

@@ -29,5 +29,5 @@ returns g c =
     around _ q.lent_sizes.k last size q.lent_sizes.stops q.m_nonzero.1 q.holds_stops q.last_reached fits.0 refl c.stop_before-before.ensures in
     let left : let a = c.args in
     PassLeft (g.C.Costs.costing a.costs) c.stop_before-before.result a.left (last / size * size) a.m
-    a.totals.now a.pivots.now c.pass-count.new.totals c.pass-count.new.pivots c.pass-count.result = c.pass-count.ensures.made (pass-ready q.lent_sizes q.m_nonzero.0 q.m_nonzero.1 near) in
+    a.totals.now a.pivots.now c.pass-count.new.totals c.pass-count.new.pivots c.pass-count.result = c.pass-count.ensures.made.made (pass-ready q.lent_sizes q.m_nonzero.0 q.m_nonzero.1 near) in
     (middle-fixed _ q.m_nonzero.0 c.pow-half.ensures near left.row (rw c.stops-n.ensures at c.fix_middle.ensures), left.counted)

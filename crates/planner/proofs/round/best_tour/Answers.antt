@@ -16,21 +16,34 @@ zeroed c = let q = c.requires in zeroed-stops (c.fill.ensures.after (λ y e. e))
 written : (c : After-best_end-held) → let n = c.args.n in let u = set c.fill.new.self (n - 1) c.best_end-held.result.stop in HoldsStops n u × (length u ≡ n)
 written c = set-order _ _ (zeroed c) c.best_end-held.ensures.below
 
-pub invariant_of-costs : goal.invariant_of-costs
-invariant_of-costs c = let z = c.requires.0 in record { small = tour-few z; square = z.square }
+pub unwrap-costs-requires : goal.unwrap-costs-requires
+unwrap-costs-requires c = let z = c.requires.0 in c.new.ensures.fits.1 (tour-few z, z.square)
 
-pub solve-requires : goal.solve-requires
-solve-requires c =
-    let held = (goal.at.solve-requires c).After-best_end-held in
+pub solve-requires-clause-lent_sizes : goal.solve-requires-clause-lent_sizes
+solve-requires-clause-lent_sizes c =
+    let held = (goal.at.solve-requires-clause-lent_sizes c).After-best_end-held in
     let q = c.requires in
-    let o = written held in record {
-      lent_sizes = record { k = c.args.k; small = q.0.small; stops = q.0.stops; places = o.1; rows = c.best_end-held.auto.totals ∙ q.2; marks = c.best_end-held.auto.pivots ∙ q.3 };
-      aligned_block = whole-block q.0.stops;
-      holds_stops = o.0;
-      last_reached = tour-reached _ _ _ q.0 c.best_end-held.result c.best_end-held.ensures c.fill.new.self (zeroed held).1;
-    }
+    let m = rw c.unwrap-costs.ensures at c.new.ensures.holds in
+    rw m.0 (record { k = c.args.k; small = q.0.small; stops = q.0.stops; places = (written held).1; rows = c.best_end-held.auto.totals ∙ q.2; marks = c.best_end-held.auto.pivots ∙ q.3 })
+
+pub solve-requires-clause-aligned_block : goal.solve-requires-clause-aligned_block
+solve-requires-clause-aligned_block c =
+    let m = rw c.unwrap-costs.ensures at c.new.ensures.holds in
+    rw m.0 (whole-block c.requires.0.stops)
+
+pub solve-requires-clause-holds_stops : goal.solve-requires-clause-holds_stops
+solve-requires-clause-holds_stops c =
+    let m = rw c.unwrap-costs.ensures at c.new.ensures.holds in
+    rw m.0 (written (goal.at.solve-requires-clause-holds_stops c).After-best_end-held).0
+
+pub solve-requires-clause-last_reached : goal.solve-requires-clause-last_reached
+solve-requires-clause-last_reached c =
+    let held = (goal.at.solve-requires-clause-last_reached c).After-best_end-held in
+    let m = rw c.unwrap-costs.ensures at c.new.ensures.holds in
+    rw (m.0, m.1, m.2) (tour-reached _ _ _ c.requires.0 c.best_end-held.result c.best_end-held.ensures c.fill.new.self (zeroed held).1)
 
 pub returns : goal.returns
 returns c =
     let held = (goal.at.returns c).After-best_end-held in
-    tour-solved _ _ _ c.requires.0 c.best_end-held.result c.best_end-held.ensures c.fill.new.self _ (zeroed held).1 (c.solve.auto.order ∙ (written held).1) c.solve.ensures.0
+    let m = rw c.unwrap-costs.ensures at c.new.ensures.holds in
+    tour-solved _ _ _ c.requires.0 c.best_end-held.result c.best_end-held.ensures c.fill.new.self _ (zeroed held).1 (c.solve.auto.order ∙ (written held).1) (rw (m.0, m.1, m.2) at c.solve.ensures.0)

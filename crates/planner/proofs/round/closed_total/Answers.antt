@@ -1,11 +1,10 @@
 -- `planner::round::closed_total` meets its contract: the last row of a pass has the total of the stop that closes.
+use Rattle.planner.proofs.ByTable.{made}
 use Rattle.planner.proofs.Tours.{tour-few, end-weighed}
 use Rattle.planner.proofs.round.closed_total.Goals as goal
-
-pub invariant_of-costs : goal.invariant_of-costs
-invariant_of-costs c = let z = c.requires.0 in record { small = tour-few z; square = z.square }
 
 pub returns : goal.returns
 returns c =
     let q = c.requires in
-    end-weighed _ _ _ q.0 c.args.last q.1 q.2 q.3 c.pass.ensures
+    let m = made c.new-costs.result (c.new-costs.ensures.fits.1 (tour-few q.0, q.0.square)) c.new-costs.ensures.holds c.pass.ensures.made in
+    end-weighed _ _ _ q.0 c.args.last q.1 q.2 q.3 (rw (m.1.0, m.1.1, m.1.2) at m.2)
