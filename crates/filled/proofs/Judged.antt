@@ -89,14 +89,18 @@ module _ (k table : ℕ) (empties : List ℕ) (list bits work : ℕ) where
       }
 
   -- lengths that are accepted
-  pub lengths-fit : gives tt ≡ lengths_first k table (length empties) list bits work (gives tt) → Fit k table empties list bits work
+  pub lengths-fit : number (lengths_first k table (length empties) list bits work (gives tt)) ≡ 0 → Fit k table empties list bits work
   unfolding lengths_first
   lengths-fit e =
-      let first = passed (leb k max_filled_k) wrong_k _ (omega arith) (ap number (sym e)) in
+      let first = passed (leb k max_filled_k) wrong_k _ (omega arith) e in
       fits first.holds (passed (list_fits (2 ^ k) table (length empties) list bits work) wrong_size (gives tt) (omega arith) first.goes_on).holds
 
+  -- and by their outcome
+  pub lengths-given : gives tt ≡ lengths_first k table (length empties) list bits work (gives tt) → Fit k table empties list bits work
+  lengths-given e = lengths-fit (ap number (sym e))
+
   pub lengths-counted : (n : ℕ) → n ≡ stop_count k → gives tt ≡ lengths_first k table (length empties) list bits work (gives tt) → Counted k n table empties list bits work
-  lengths-counted n c e = count-fits n c (lengths-fit e)
+  lengths-counted n c e = count-fits n c (lengths-given e)
 
   -- lengths that are not: the call's refusal
   pub lengths-refused : (r : ℕ) → refuses r ≡ lengths_first k table (length empties) list bits work (gives tt) → refuses r ≡ list_room k table empties list bits work

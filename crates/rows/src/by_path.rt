@@ -28,6 +28,27 @@ impl<'a> ByPath<'a> {
             None
         }
     }
+
+    // The same by a fork's numbers, 0 for no fork, with 2^level stops on each of its sides: none where the level is above 9 too. A fork that cannot be held
+    // is refused so, and not taken for no fork, as the none of `Held::new` would be.
+    pub fn holding(
+        n: usize,
+        path: PathBytes<'a>,
+        fork: usize,
+        level: u32,
+        exchanged: bool,
+    ) -> Option<ByPath<'a>>
+        ensures fits { IsSome result ↔ ((n ≤ 1024) × (level < 10)) }
+        ensures same { IfSome result (λ c. (c.n ≡ n) × (c.path.bytes.now ≡ path.entry.bytes.now) × (c.path.version ≡ path.entry.version)) }
+        ensures holds { IfSome result (λ c. IsSome c.held ↔ (0 < fork)) }
+        ensures state { IfSome result (λ c. IfSome c.held (λ h. (h.fork ≡ fork) × (h.level ≡ level) × (h.exchanged ≡ exchanged))) }
+    {
+        if level < 10 {
+            ByPath::new(n, path, Held::new(fork, level, exchanged))
+        } else {
+            None
+        }
+    }
 }
 
 // Whether stop i of n may stand in `place`, where this fork is held.
