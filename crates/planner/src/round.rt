@@ -21,7 +21,7 @@ fn closed_total(
     ensures { EndWeighed n k table.now last result }
 {
     let costs = ByTable::new(n, table, Some(last));
-    rows::pass(costs, totals, pivots, 0, 0, 0, k);
+    rows::pass_if_any(costs, totals, pivots, 0, 0, 0, k);
     totals[n + last]
 }
 

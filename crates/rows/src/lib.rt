@@ -2,10 +2,10 @@
 // place (Algorithm 2 of document 000 makes one pass for each block that it halves).
 //
 // No public function has a `requires` but the readings of the trait `Costs`, which ask for places and stops that there are. `pass` and `start_cost` take
-// costs or none, as `new` of `ByTable`, `ByPlaces` and `ByPath` answers, so that they are total for any slices. The contract of `pass` cites
-// `specs/Pass.antt` and, through it, the best walks of `walks`. What a move costs is known to the impls of `Costs` alone, in `tables` and `by_path`, and the
-// compiler makes the code of a pass for each of them; `way` weighs candidates for up to four stops in registers, `row` makes one row from another and
-// `leaves` three at once, `block` makes those of a block of places, `ready` tests what a pass is asked for.
+// costs; `pass_if_any` and `start_cost_if_any` take costs or none, as `new` of `ByTable`, `ByPlaces` and `ByPath` answers, so that they are total for
+// any slices. The contract of a pass cites `specs/Pass.antt` and, through it, the best walks of `walks`. What a move costs is known to the impls of
+// `Costs` alone, in `tables` and `by_path`, and the compiler makes the code of a pass for each of them; `way` weighs candidates for up to four stops in
+// registers, `row` makes one row from another and `leaves` three at once, `block` makes those of a block of places, `ready` tests what a pass is asked for.
 //
 // `totals` and `pivots` stay two parameters: a struct that holds both `&mut` would ask two clauses more of each function that writes through it, that the slices are still
 // the caller's, and is no plainer.
@@ -34,9 +34,23 @@ pub use tables::{ByPlaces, ByTable};
 
 // One pass over the 2^m places from `left` on, for the 2^m stops from `base` on, after the stop `before` (before place 0 there is none, and it is not
 // looked at but for being a stop). The last row is left in the numbers n to 2n - 1 of `totals` and `pivots`; the answer is the number of weighings.
-// No costs, which is what `new` answers for slices that do not suffice, are refused as any other call that is not asked for rightly: 0, and nothing is written.
-// So `pass(ByTable::new(n, table, None), ..)` is total for any n and any slices.
 pub fn pass<C: Costs>(
+    costs: C,
+    totals: &mut [u64],
+    pivots: &mut [u16],
+    before: usize,
+    left: usize,
+    base: usize,
+    m: u32,
+) -> u64
+    ensures { MakesPass (C.costing costs) totals pivots before left base m result }
+{
+    pass_if_any(Some(costs), totals, pivots, before, left, base, m)
+}
+
+// The same by costs, if there are any. No costs, which is what `new` answers for slices that do not suffice, are refused as any other call that is not
+// asked for rightly: 0, and nothing is written. So `pass_if_any(ByTable::new(n, table, None), ..)` is total for any n and any slices.
+pub fn pass_if_any<C: Costs>(
     costs: Option<C>,
     totals: &mut [u64],
     pivots: &mut [u16],
@@ -62,8 +76,15 @@ pub fn pass<C: Costs>(
     }
 }
 
-// What stop i costs in place 0, and 0 where there are no costs or no such stop: total for any slices as `pass` is.
-pub fn start_cost<C: Costs>(costs: Option<C>, i: usize) -> u64
+// What stop i costs in place 0, and 0 where there is no such stop.
+pub fn start_cost<C: Costs>(costs: C, i: usize) -> u64
+    ensures { StartTold (C.costing costs) i result }
+{
+    start_cost_if_any(Some(costs), i)
+}
+
+// The same by costs, if there are any, and 0 where there are none: total for any slices as `pass_if_any` is.
+pub fn start_cost_if_any<C: Costs>(costs: Option<C>, i: usize) -> u64
     ensures told { IfSome costs (λ c. StartTold (C.costing c) i result) }
     ensures refused { costs ≡ None → result ≡ 0 }
 {

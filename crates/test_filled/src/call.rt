@@ -33,7 +33,7 @@ impl Asked {
     pub fn example<R: Print>(self, rt: &R, lengths: Lengths) -> io::Result<()> {
         let Asked { k, rule, n, .. } = self;
         let mut table = [0u32; 4097];
-        let table = table::make(&mut table, n, lengths.table, Rule(rule));
+        let table = table::make_in(&mut table, n, lengths.table, Rule(rule));
         let mut empties = empties_of(n, self.empty);
         part::change(&mut empties, self.changes);
         let empties = part::first(&empties, lengths.empties);

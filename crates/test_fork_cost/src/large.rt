@@ -16,18 +16,18 @@ fn push_stop(bytes: &mut ArrayVec<u8, SIZE>, i: u16) -> Result<(), CapacityError
     requires { i < 1024 }
 {
     let x = 37 * i % 31 * 10;
-    part::push(bytes, &[20, 2])?;
-    part::push(bytes, &[x, 0, 0, 0, 0, 0])?;
-    part::push(bytes, &[1000 + i % 2 * 1000, 10, i % 4])
+    part::push_within(bytes, &[20, 2])?;
+    part::push_within(bytes, &[x, 0, 0, 0, 0, 0])?;
+    part::push_within(bytes, &[1000 + i % 2 * 1000, 10, i % 4])
 }
 
 // Adds the whole path.
 fn push_path(bytes: &mut ArrayVec<u8, SIZE>) -> Result<(), CapacityError> {
-    part::push(bytes, &[6, 1, 6, 10])?;
+    part::push_within(bytes, &[6, 1, 6, 10])?;
     for i in 0..1024 {
         push_stop(bytes, i)?;
     }
-    part::push(bytes, &[2, 3])
+    part::push_within(bytes, &[2, 3])
 }
 
 // `ten FORK`: what this fork of the path costs the other way.

@@ -2,7 +2,7 @@
 
 use base::Refusal;
 use std::io;
-use test_support::cases::Cases;
+use test_support::cases::PrintCases;
 use test_support::write::{self, Bytes, Numbers};
 use test_support::{part, text};
 
@@ -17,7 +17,7 @@ pub struct Session {
     pub kept: [u64; 33],
 }
 
-impl Cases for Session {
+impl PrintCases for Session {
     // What is called, or what is set between the calls, and then every place. A `match` on the letter stays: each arm is one call, and a table of
     // functions would name the same letters beside them.
     fn run<R: Print>(&mut self, rt: &R, letter: u8, line: &[u8]) -> io::Result<()> {

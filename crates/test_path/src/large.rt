@@ -49,18 +49,18 @@ fn push_stop(bytes: &mut ArrayVec<u8, BYTES>, version: u16, i: u16) -> Result<()
         _ => (20, 3),
     };
     let fields = [977 + i, i % 501, 37 * i % 5001];
-    part::push(bytes, &[length, 2])?;
+    part::push_within(bytes, &[length, 2])?;
     push_point(bytes, i)?;
-    part::push(bytes, part::first(&fields, kept))
+    part::push_within(bytes, part::first(&fields, kept))
 }
 
 // Adds the path of 1,024 stops in a version.
 fn push_path(bytes: &mut ArrayVec<u8, BYTES>, version: u16) -> Result<(), CapacityError> {
-    part::push(bytes, &[6, 1, version, 10])?;
+    part::push_within(bytes, &[6, 1, version, 10])?;
     for i in 0..1024 {
         push_stop(bytes, version, i)?;
     }
-    part::push(bytes, &[2, 3])
+    part::push_within(bytes, &[2, 3])
 }
 
 // That path, for which there is room.

@@ -13,13 +13,13 @@ mod table;
 mod writing;
 
 use std::io;
-use test_support::cases::{self, Cases};
+use test_support::cases::{self, PrintCases};
 
 // The calls, between which nothing is kept.
 #[derive(Drop)]
 struct Calls;
 
-impl Cases for Calls {
+impl PrintCases for Calls {
     // A `match` on the letter stays: each arm is one call, and a table of functions would name the same letters beside them.
     fn run<R: Print>(&mut self, rt: &R, letter: u8, line: &[u8]) -> io::Result<()> {
         match letter {
@@ -40,5 +40,5 @@ impl Cases for Calls {
 
 // Reads the cases and runs them: one call, with this program's own cases.
 fn main() {
-    cases::run_all(&mut Calls)
+    cases::run_unfailing(&mut Calls)
 }

@@ -75,12 +75,12 @@ impl Asked {
     pub fn by_rules(self, lengths: Lengths, lent: &mut Lent) -> Result<Found, Refusal> {
         let mut table = [0u32; 256];
         let mut places = [0u32; 256];
-        let table = table::make(&mut table, lengths.rows, lengths.table, Rule(self.rule));
+        let table = table::make_in(&mut table, lengths.rows, lengths.table, Rule(self.rule));
         let (extra, size) = match self.call {
             Call::Places(extra) => (extra, lengths.places),
             _ => (0, 0),
         };
-        let places = table::make(&mut places, lengths.rows, size, Rule(extra));
+        let places = table::make_in(&mut places, lengths.rows, size, Rule(extra));
         self.answer(table, places, lent)
     }
 

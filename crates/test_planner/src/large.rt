@@ -37,7 +37,7 @@ fn stop_in(p: usize) -> usize
 
 // A table of moves that take 5, but those of the planted order, which take `time`, in the first of these places.
 fn planted(places: &mut [u32], time: u32) -> &mut [u32] {
-    let table = table::make(places, 1024, 1048576, Rule(8));
+    let table = table::make_in(places, 1024, 1048576, Rule(8));
     for p in 1..1024 {
         part::put(table, stop_in(p - 1) * 1024 + stop_in(p), time);
     }

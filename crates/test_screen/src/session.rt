@@ -3,7 +3,7 @@
 use crate::paths;
 use base::Refusal;
 use std::io;
-use test_support::cases::Cases;
+use test_support::cases::PrintCases;
 use test_support::write::{self, Numbers};
 use test_support::{part, text};
 
@@ -15,7 +15,7 @@ pub struct Session {
     sums: [u64; 9],
 }
 
-impl Cases for Session {
+impl PrintCases for Session {
     // A `match` on the letter stays: each arm is one call, and a table of functions would name the same letters beside them.
     fn run<R: Print>(&mut self, rt: &R, letter: u8, line: &[u8]) -> io::Result<()> {
         match letter {

@@ -5,6 +5,7 @@ ghost use Rattle.test_support.specs.Bytes.{two_bytes};
 ghost use Rattle.test_support.specs.Change.{changed_once, changed};
 
 use arrayvec::{ArrayVec, CapacityError};
+use std::alloc::AllocError;
 
 // The first `count` elements, or all where there are fewer.
 pub fn first<T>(all: &[T], count: usize) -> &[T]
@@ -39,7 +40,17 @@ pub fn copy<T: Copy>(list: &mut [T], source: &[T])
 }
 
 // Adds numbers of 16 bits, the low byte of each first.
-pub fn push<const N: usize>(
+pub fn push(bytes: &mut Vec<u8>, numbers: &[u16]) -> Result<(), AllocError>
+    ensures { OnOk result (bytes.new.items ≡ bytes.old.items ++ flat_map two_bytes numbers.now) }
+{
+    for number in numbers {
+        bytes.extend_from_slice(&number.to_le_bytes())?;
+    }
+    Ok(())
+}
+
+// The same within the places of an array, with nothing from a heap.
+pub fn push_within<const N: usize>(
     bytes: &mut ArrayVec<u8, N>,
     numbers: &[u16],
 ) -> Result<(), CapacityError>

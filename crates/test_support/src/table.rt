@@ -1,8 +1,9 @@
 // Tables of travel times.
-ghost use Rattle.std.specs.Prelude.{◌≡◌, length, min};
+ghost use Rattle.std.specs.Prelude.{◌≡◌, IfOk, length, min};
 ghost use Rattle.test_support.specs.Fifty.{fifty_x, fifty_time};
 
 use crate::part;
+use std::alloc::{AllocError, Global};
 
 // A rule that gives each entry of a table: a program's own, of which no contract is asked.
 pub trait Rule: Copy {
@@ -10,9 +11,22 @@ pub trait Rule: Copy {
     fn entry(self, a: u32, b: u32) -> u32;
 }
 
-// The table of so many rows, at least one, by a rule, of this size, or as long as there are places, in the first of them. A rule is asked for stops below
-// 1,024: a larger number is taken from 0 on again.
-pub fn make(places: &mut [u32], rows: usize, size: usize, rule: impl Rule) -> &mut [u32]
+// The table of so many rows, at least one, by a rule, of this size. A rule is asked for stops below 1,024: a larger number is taken from 0 on again.
+pub fn make(
+    alloc: Global,
+    rows: usize,
+    size: usize,
+    rule: impl Rule,
+) -> Result<Vec<u32>, AllocError>
+    ensures { IfOk result (λ table. length table.items ≡ size) }
+{
+    let mut table = vec![in alloc; 0u32; size]?;
+    make_in(&mut table, rows, size, rule);
+    Ok(table)
+}
+
+// The same in the first of lent places, or as long as there are places.
+pub fn make_in(places: &mut [u32], rows: usize, size: usize, rule: impl Rule) -> &mut [u32]
     ensures { length result.now ≡ min size (length places.old) }
 {
     let rows = rows.max(1);

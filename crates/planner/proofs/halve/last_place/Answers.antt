@@ -23,7 +23,7 @@ sizes g c = rw (← c.stops-n.ensures) at c.requires.lent_sizes
 chosen : (g : given.Over) (c : After-least-held g) → c.least-held.result.stop < c.stops-n.result
 chosen g c =
     let n = c.stops-n.result in
-    omega (arith, ap (λ (x : ℕ × ℕ). x.1) c.least-held.ensures, least_lt (λ j. get_or c.pass-weighings.new.totals (n + j) 0) n n (sizes-pos (sizes g c)) (omega arith))
+    omega (arith, ap (λ (x : ℕ × ℕ). x.1) c.least-held.ensures, least_lt (λ j. get_or c.pass_if_any-weighings.new.totals (n + j) 0) n n (sizes-pos (sizes g c)) (omega arith))
 
 -- every place is a stop, before and after the last one is written
 zeroed : (g : given.Over) (c : After-least-held g) → let u = c.fill.new.self in HoldsStops c.stops-n.result u × (length u ≡ c.stops-n.result)
@@ -43,7 +43,7 @@ fix_middle-requires g c =
     let q = c.requires.k_nonzero in
     let size : 2 * c.pow.result ≡ c.stops-n.result = omega (arith, c.pow.ensures, pow-half c.args.k q.0, q.1, c.stops-n.ensures) in
     record {
-      half_nonzero = (omega (arith, size, sizes-pos z), omega (arith, size), sizes-small z, order.1, c.pass-weighings.auto.pivots ∙ z.marks);
+      half_nonzero = (omega (arith, size, sizes-pos z), omega (arith, size), sizes-small z, order.1, c.pass_if_any-weighings.auto.pivots ∙ z.marks);
       holds_stops = order.0;
     }
 
@@ -53,9 +53,9 @@ returns g c =
     let stops = zeroed g held in
     let q = c.requires in
     let e = c.stops-n.ensures in
-    let left : let a = c.args in PassLeft (g.C.Costs.costing a.costs) 0 0 0 a.k a.totals.now a.pivots.now c.pass-weighings.new.totals c.pass-weighings.new.pivots c.pass-weighings.result =
-    c.pass-weighings.ensures.made.made (pass-whole q.lent_sizes q.k_nonzero.0 q.k_nonzero.1) in
+    let left : let a = c.args in PassLeft (g.C.Costs.costing a.costs) 0 0 0 a.k a.totals.now a.pivots.now c.pass_if_any-weighings.new.totals c.pass_if_any-weighings.new.pivots c.pass_if_any-weighings.result =
+    c.pass_if_any-weighings.ensures.made.made (pass-whole q.lent_sizes q.k_nonzero.0 q.k_nonzero.1) in
     rw (← e) (
-      ends-fixed _ _ _ _ _ _ _ (sym e) (e ∙ q.k_nonzero.1) q.k_nonzero.0 c.pow.ensures stops.1 stops.0 (chosen g held) (rw (← e) at q.k_nonzero.2) (subst (λ x. RowHolds (all_walks (g.C.Costs.costing c.args.costs)) (2 ^ (c.args.k - 1) - 1) (2 ^ c.args.k - 1) x 0 (2 ^ c.args.k) c.pass-weighings.new.totals c.pass-weighings.new.pivots) (sym e) left.row) c.least-held.ensures c.fix_middle.ensures,
+      ends-fixed _ _ _ _ _ _ _ (sym e) (e ∙ q.k_nonzero.1) q.k_nonzero.0 c.pow.ensures stops.1 stops.0 (chosen g held) (rw (← e) at q.k_nonzero.2) (subst (λ x. RowHolds (all_walks (g.C.Costs.costing c.args.costs)) (2 ^ (c.args.k - 1) - 1) (2 ^ c.args.k - 1) x 0 (2 ^ c.args.k) c.pass_if_any-weighings.new.totals c.pass_if_any-weighings.new.pivots) (sym e) left.row) c.least-held.ensures c.fix_middle.ensures,
       left.counted,
     )

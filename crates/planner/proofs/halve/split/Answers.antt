@@ -17,7 +17,7 @@ pub fix_middle-requires-clause-half_nonzero : goal.fix_middle-requires-clause-ha
 fix_middle-requires-clause-half_nonzero g c =
     let q = c.requires in
     let fits = halves-fit q.lent_sizes q.m_nonzero.0 q.m_nonzero.1 c.pow-half.ensures in
-    rw c.stops-n.ensures (omega (arith, fits, pow_pos c.args.m), omega (arith, fits), fits.2, q.lent_sizes.places, c.pass-count.auto.pivots ∙ q.lent_sizes.marks)
+    rw c.stops-n.ensures (omega (arith, fits, pow_pos c.args.m), omega (arith, fits), fits.2, q.lent_sizes.places, c.pass_if_any-count.auto.pivots ∙ q.lent_sizes.marks)
 
 pub returns : goal.returns
 returns g c =
@@ -29,5 +29,5 @@ returns g c =
     around _ q.lent_sizes.k last size q.lent_sizes.stops q.m_nonzero.1 q.holds_stops q.last_reached fits.0 refl c.stop_before-before.ensures in
     let left : let a = c.args in
     PassLeft (g.C.Costs.costing a.costs) c.stop_before-before.result a.left (last / size * size) a.m
-    a.totals.now a.pivots.now c.pass-count.new.totals c.pass-count.new.pivots c.pass-count.result = c.pass-count.ensures.made.made (pass-ready q.lent_sizes q.m_nonzero.0 q.m_nonzero.1 near) in
+    a.totals.now a.pivots.now c.pass_if_any-count.new.totals c.pass_if_any-count.new.pivots c.pass_if_any-count.result = c.pass_if_any-count.ensures.made.made (pass-ready q.lent_sizes q.m_nonzero.0 q.m_nonzero.1 near) in
     (middle-fixed _ q.m_nonzero.0 c.pow-half.ensures near left.row (rw c.stops-n.ensures at c.fix_middle.ensures), left.counted)

@@ -22,7 +22,7 @@ pub returns-then-k-eq0 : goal.returns-then-k-eq0
 returns-then-k-eq0 g c =
     let q = c.requires in
     let one = q.n_value.0 ∙ ap (λ x. 2 ^ x) c.if-k-eq0.true in
-    (one-stop _ refl one q.n_value.1 (set-only c.args.order.now (q.lent_sizes.places ∙ one)) (c.start_cost.ensures.told.told (sizes-pos q.lent_sizes)), plan-one c.if-k-eq0.true)
+    (one-stop _ refl one q.n_value.1 (set-only c.args.order.now (q.lent_sizes.places ∙ one)) (c.start_cost_if_any.ensures.told.told (sizes-pos q.lent_sizes)), plan-one c.if-k-eq0.true)
 
 pub pow-half-requires : goal.pow-half-requires
 pow-half-requires g c = omega (arith, pow-le-1024 (c.args.k - 1) (omega (arith, few g (goal.at.pow-half-requires g c).Start)))

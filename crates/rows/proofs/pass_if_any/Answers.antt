@@ -1,13 +1,13 @@
--- `rows::pass` meets its contract.
+-- `rows::pass_if_any` meets its contract.
 use native.Mathlib.Omega.{arith}
 use lib.ListN.{length}
 use Rattle.rows.specs.Pass.{PassReady}
 use Rattle.rows.proofs.Blocks.{aligned-small}
 use Rattle.rows.proofs.Asked.{block-follows}
 use Rattle.rows.proofs.Passes.{pass-left}
-use Rattle.rows.proofs.pass.Given as given
-use Rattle.rows.proofs.pass.Goals as goal
-use Rattle.rows.proofs.pass.Goals.{Then-ready}
+use Rattle.rows.proofs.pass_if_any.Given as given
+use Rattle.rows.proofs.pass_if_any.Goals as goal
+use Rattle.rows.proofs.pass_if_any.Goals.{Then-ready}
 
 -- it was asked for rightly
 asked : (g : given.Over) (c : Then-ready g) → let a = c.args in PassReady (g.C.Costs.costing c.in-Some.costs).stops (length a.totals.now) (length a.pivots.now) a.before a.left a.base a.m
