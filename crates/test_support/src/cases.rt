@@ -49,8 +49,8 @@ pub fn run_all<R: Input + Print + AllocGlobal>(
     Ok(())
 }
 
-// One line: its name, and what the program writes of it. These are the steps of `run_line`: shared by a closure they took the programs an instruction more
-// for each line.
+// One line: its name, and what the program writes of it. These are the steps of `run_line`: shared by a closure they took test_screen an instruction more
+// for each case.
 fn run_line_unfailing(cases: &mut impl PrintCases, line: &[u8]) -> std::io::Result<()> {
     let letter = text::letter(line, 1);
     if letter == 0 {
